@@ -1,0 +1,131 @@
+-- The spelling of events in a file: each event has one frame (this project's own wire form).
+use Rattle.std.specs.Prelude.{◌≡◌, ℕ, ◌+◌, ◌<◌, ◌≤◌, List, [], ◌∷◌, ◌++◌, length, take, Option, Some, None, nat_eq, if◌then◌else◌}
+use Rattle.std.specs.List.{flat_map, AllByRecursion}
+use Rattle.std.specs.Int.{w32, to_le_bytes, from_le_bytes}
+use Rattle.ca_model.specs.declared.event.Event.{Event}
+use Rattle.ca_model.specs.declared.event.Event.TheVariants as event
+use Rattle.ca_model.specs.declared.event.Call.{Call}
+use Rattle.ca_model.specs.declared.event.Call.TheVariants as call
+use Rattle.ca_model.specs.declared.event.DeviceEvent.{DeviceEvent}
+use Rattle.ca_model.specs.declared.event.DeviceEvent.TheVariants as device
+use Rattle.ca_model.specs.Fields.{Kind, Field, AllFit, fields_bytes}
+use Rattle.ca_model.specs.Fields.Kind.{connection, byte, four, eight, guid, text, format, rest}
+use Rattle.ca_model.specs.Fields.Field.{number, bytes}
+
+-- the calls that are listed, by code, and the kinds of their fields
+abbrev pub calls : List (ℕ × List Kind)
+calls =
+    (5, four ∷ byte ∷ [])
+    ∷ (16, eight ∷ four ∷ four ∷ eight ∷ eight ∷ format ∷ guid ∷ [])
+    ∷ (23, eight ∷ [])
+    ∷ (32, eight ∷ four ∷ [])
+    ∷ (33, eight ∷ four ∷ four ∷ rest ∷ [])
+    ∷ []
+
+-- the device events that are listed
+abbrev pub device_events : List (ℕ × List Kind)
+device_events = (1, four ∷ byte ∷ format ∷ text ∷ []) ∷ []
+
+-- what a table has for a code
+abbrev pub listed : ℕ → List (ℕ × List Kind) → Option (List Kind)
+listed code [] = None
+listed code (row ∷ rows) = if nat_eq row.0 code then Some row.1 else listed code rows
+
+-- a code that isn't listed has the rest of the event as its one field
+abbrev pub or_rest : Option (List Kind) → List Kind
+or_rest (Some kinds) = kinds
+or_rest None = rest ∷ []
+
+abbrev pub call_code : Call → ℕ
+call_code (call.Activate e role) = 5
+call_code (call.Initialize c share flags duration period f session) = 16
+call_code (call.Start c) = 23
+call_code (call.GetBuffer c n) = 32
+call_code (call.ReleaseBuffer c n flags data') = 33
+call_code (call.Other code tail) = code
+
+abbrev pub call_fields : Call → List Field
+call_fields (call.Activate e role) = number e.0 ∷ number role ∷ []
+call_fields (call.Initialize c share flags duration period f session) =
+    number c.0 ∷ number share ∷ number flags ∷ number duration ∷ number period ∷ bytes f.list ∷ number session.0 ∷ []
+call_fields (call.Start c) = number c.0 ∷ []
+call_fields (call.GetBuffer c n) = number c.0 ∷ number n ∷ []
+call_fields (call.ReleaseBuffer c n flags data') = number c.0 ∷ number n ∷ number flags ∷ bytes data'.list ∷ []
+call_fields (call.Other code tail) = bytes tail.list ∷ []
+
+abbrev pub device_code : DeviceEvent → ℕ
+device_code (device.Add e flow f name) = 1
+device_code (device.Other code tail) = code
+
+abbrev pub device_fields : DeviceEvent → List Field
+device_fields (device.Add e flow f name) = number e.0 ∷ number flow ∷ bytes f.list ∷ bytes name ∷ []
+device_fields (device.Other code tail) = bytes tail.list ∷ []
+
+-- the kinds of an event's fields: first the byte that says what it is
+abbrev pub kinds : Event → List Kind
+kinds (event.Open c pid name) = byte ∷ connection ∷ four ∷ text ∷ []
+kinds (event.Call c tag x) = byte ∷ connection ∷ four ∷ byte ∷ or_rest (listed (call_code x) calls)
+kinds (event.Period e) = byte ∷ four ∷ []
+kinds (event.Device x) = byte ∷ byte ∷ or_rest (listed (device_code x) device_events)
+
+abbrev pub fields : Event → List Field
+fields (event.Open c pid name) = number 1 ∷ number c.0 ∷ number pid ∷ bytes name ∷ []
+fields (event.Call c tag x) = number 3 ∷ number c.0 ∷ number tag ∷ number (call_code x) ∷ call_fields x
+fields (event.Period e) = number 4 ∷ number e.0 ∷ []
+fields (event.Device x) = number 5 ∷ number (device_code x) ∷ device_fields x
+
+-- a listed code is never spelled as another
+abbrev pub CodeIsOwn : Event → Type 0
+CodeIsOwn (event.Call c tag (call.Other code tail)) = listed code calls ≡ None
+CodeIsOwn (event.Device (device.Other code tail)) = listed code device_events ≡ None
+CodeIsOwn _ = Unit {0}
+
+-- the longest body of a frame, in bytes
+abbrev pub longest : ℕ
+longest = 4194304
+
+abbrev pub body : Event → List ℕ
+body e = fields_bytes (kinds e) (fields e)
+
+-- the spelling of an event: the length of its body, and the body
+abbrev pub frame : Event → List ℕ
+frame e = to_le_bytes w32 (length (body e)) ++ body e
+
+-- the events that have a spelling
+pub record IsEvent (e : Event) : Type 0 where
+  pub fit : AllFit (kinds e) (fields e)
+  pub own : CodeIsOwn e
+  pub short : length (body e) ≤ longest
+
+-- the spellings of events, one after another
+abbrev pub frames : List Event → List ℕ
+frames es = flat_map frame es
+
+-- the length that a frame begins with
+abbrev pub stated_length : List ℕ → ℕ
+stated_length bs = from_le_bytes w32 (take 4 bs)
+
+-- a lawful length, and fewer bytes than it says; or not even the length
+pub data IsShort (bs : List ℕ) : Type 0 where
+  no_length : length bs < 4 → IsShort bs
+  no_body : 0 < stated_length bs → stated_length bs ≤ longest → length bs < 4 + stated_length bs → IsShort bs
+
+-- an event's spelling stands at the front
+pub record Begins (e : Event) (bs : List ℕ) : Type 0 where
+  pub spelled : IsEvent e
+  pub front : take (length (frame e)) bs ≡ frame e
+
+-- no event's spelling stands at the front
+abbrev pub NoEvent : List ℕ → Type 0
+NoEvent bs = (e : Event) → Begins e bs → ⊥
+
+-- the front is neither an event nor the beginning of a frame of lawful length
+pub record IsMalformed (bs : List ℕ) : Type 0 where
+  pub whole : IsShort bs → ⊥
+  pub none : NoEvent bs
+
+-- the cut of an input: the longest list of events whose spellings stand at the front, and the rest
+pub record Cut (input : List ℕ) (events : List Event) (tail : List ℕ) : Type 0 where
+  pub whole : input ≡ frames events ++ tail
+  pub each : AllByRecursion IsEvent events
+  pub longest_list : NoEvent tail
