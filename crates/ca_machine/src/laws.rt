@@ -1,0 +1,1 @@
+//! The laws of the machine, each the contract of an empty function.
