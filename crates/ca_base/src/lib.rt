@@ -4,11 +4,20 @@
 mod bytes;
 mod codes;
 mod ids;
+mod memory;
 mod outside;
+mod standard;
 mod text;
+mod words;
 
 pub use bytes::Bytes;
 pub use codes::Hr;
 pub use ids::{ClientNo, ConnNo, Dir, EndpointNo, Flow, Gate, Guid, Reason, Seen, SessionNo};
+pub use memory::{MemSink, MemSource};
 pub use outside::{Failed, NoMemory, Sink, Source};
+pub use standard::{StdSink, StdSource, read_once, write_once};
 pub use text::Text;
+pub use words::Words;
+
+#[cfg(test)]
+mod tests;

@@ -5,3 +5,6 @@ pub mod State
 pub mod Plan
 pub mod Tables
 pub mod Step
+pub mod Fates
+pub mod Woven
+pub mod Laws

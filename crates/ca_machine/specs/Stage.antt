@@ -1,5 +1,5 @@
 -- The stage: the endpoints, and the render streams on them (IAudioClient, IAudioRenderClient).
-use Rattle.std.specs.Prelude.{ℕ, ℤ, ◌-◌, List, length, Bool, true, false, Option, Some, None}
+use Rattle.std.specs.Prelude.{ℕ, ℤ, ◌-◌, List, [], length, Bool, true, false, Option, Some, None}
 use Rattle.ca_base.specs.declared.ids.Gate.{Gate}
 use Rattle.ca_base.specs.declared.ids.Gate.TheVariants as gate
 use Rattle.wave_format.specs.declared.format.Format.{Format}
@@ -41,6 +41,10 @@ pub record Endpoint : Type 0 where
 pub record Stage : Type 0 where
   pub endpoints : List Endpoint
   pub streams : List Stream
+
+-- nothing is there yet
+abbrev pub empty_stage : Stage
+empty_stage = record { endpoints = []; streams = [] }
 
 -- padding (IAudioClient::GetCurrentPadding): the frames released and not yet given a fate
 abbrev pub padding : Stream → ℕ

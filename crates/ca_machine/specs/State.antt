@@ -1,7 +1,7 @@
 -- The state of the one-thread machine.
 use Rattle.std.specs.Prelude.{ℕ, ◌==◌, ◌&&◌, List, [], Option, Bool, if◌then◌else◌}
 use Rattle.std.specs.List.{find, list_any}
-use Rattle.ca_machine.specs.Stage.{Stage}
+use Rattle.ca_machine.specs.Stage.{Stage, empty_stage}
 
 -- an open connection: its process, and the name that it gave
 pub record Connection : Type 0 where
@@ -24,9 +24,6 @@ pub record State : Type 0 where
   pub last_endpoint : ℕ
   pub clients_made : ℕ
   pub sessions_made : ℕ
-
-abbrev pub empty_stage : Stage
-empty_stage = record { endpoints = []; streams = [] }
 
 abbrev pub empty_state : State
 empty_state = record { stage = empty_stage; connections = []; clients = []; last_endpoint = 0; clients_made = 0; sessions_made = 0 }

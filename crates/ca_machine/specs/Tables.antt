@@ -3,7 +3,7 @@
 use Rattle.std.specs.Prelude.{ℕ, ◌+◌, ◌-◌, ◌*◌, ◌/◌, ◌%◌, ◌^◌, ◌==◌, ◌&&◌, ◌||◌, not, nat_lt, nat_le, min, max, List, [], ◌∷◌, ◌++◌, length, replicate, pos, Bool, true, false, Option, Some, None, is_some, is_none, if◌then◌else◌}
 use Rattle.std.specs.List.{list_all, list_any}
 use Rattle.std.specs.Option.{option_map_or}
-use Rattle.std.specs.Str.Lossy.{utf8_valid_len}
+use Rattle.std.specs.Str.{is_utf8}
 use Rattle.std.specs.Int.{w32, w64, to_le_bytes}
 use Rattle.ca_base.specs.declared.codes.Hr.{Hr}
 use Rattle.ca_base.specs.declared.codes.TheConstants.Hr as hr
@@ -59,9 +59,6 @@ is_name_byte b = nat_le 48 b && nat_le b 57 || (nat_le 65 b && nat_le b 90 || (n
 
 abbrev pub is_name : List ℕ → Bool
 is_name bytes = nat_lt 0 (length bytes) && (nat_le (length bytes) 64 && list_all is_name_byte bytes)
-
-abbrev pub is_utf8 : List ℕ → Bool
-is_utf8 bytes = utf8_valid_len bytes == length bytes
 
 -- the format is an extensible one (WAVE_FORMAT_EXTENSIBLE)
 abbrev pub is_extensible : List ℕ → Bool
@@ -120,10 +117,10 @@ activate_plan st conn endpoint role = plain
     }))
 
 -- the client's stream can't be opened: it was disconnected, or its endpoint isn't there or isn't ACTIVE
-abbrev pub is_invalidated : State → Option Client → Bool
-is_invalidated st None = false
-is_invalidated st (Some client) =
-    if_stream (λ s. not (is_open s)) (stream_at client.number st.stage) || is_inactive (endpoint_at client.endpoint st.stage)
+abbrev pub is_invalidated : State → Option Client → Option Stream → Bool
+is_invalidated st None stream = false
+is_invalidated st (Some client) stream =
+    if_stream (λ s. not (is_open s)) stream || is_inactive (endpoint_at client.endpoint st.stage)
 
 -- flags that stand for later parts of the service: CROSSPROCESS, LOOPBACK, EVENTCALLBACK and NOPERSIST, bits 16 to 19
 abbrev pub has_later_flag : ℕ → Bool
@@ -164,17 +161,22 @@ new_stream client endpoint format duration session = record {
   data' = record { pending = []; released = 0; lease = None };
 }
 
+-- the rows over the client that was found, and its stream
+abbrev pub opening_rows : State → Option Client → Option Stream → ℕ → ℕ → ℕ → ℕ → List ℕ → List Row
+opening_rows st client stream share flags duration period format =
+    (is_invalidated st client stream, hr.DEVICE_INVALIDATED)
+    ∷ (is_some stream, hr.ALREADY_INITIALIZED)
+    ∷ (nat_lt 1 share || (has_other_flag flags || (is_long duration || is_long period)), hr.E_INVALIDARG)
+    ∷ (option_map_or (λ fault. nat_le fault 2) (fault_of format) false, hr.E_INVALIDARG)
+    ∷ (is_some (fault_of format) || has_no_match (client_format st client) format, hr.UNSUPPORTED_FORMAT)
+    ∷ []
+
 abbrev pub initialize_rows : State → ℕ → ℕ → ℕ → ℕ → ℕ → ℕ → List ℕ → ℕ → List Row
 initialize_rows st conn client share flags duration period format session =
     connection_row conn st
     ∷ (share == 1 || (has_later_flag flags || (not (session == 0) || is_extensible format)), hr.E_NOTIMPL)
     ∷ client_row conn client st
-    ∷ (is_invalidated st (client_of conn client st), hr.DEVICE_INVALIDATED)
-    ∷ (is_some (stream_at client st.stage), hr.ALREADY_INITIALIZED)
-    ∷ (nat_lt 1 share || (has_other_flag flags || (is_long duration || is_long period)), hr.E_INVALIDARG)
-    ∷ (option_map_or (λ fault. nat_le fault 2) (fault_of format) false, hr.E_INVALIDARG)
-    ∷ (is_some (fault_of format) || has_no_match (client_format st (client_of conn client st)) format, hr.UNSUPPORTED_FORMAT)
-    ∷ []
+    ∷ opening_rows st (client_of conn client st) (stream_at client st.stage) share flags duration period format
 
 -- a stream of the process's default session, whose number is the first
 abbrev pub initialized : State → Option Client → List ℕ → ℕ → Outcome
@@ -191,23 +193,29 @@ initialize_plan st conn client share flags duration period format session =
 
 -- ---- Start, GetBuffer and ReleaseBuffer
 
+abbrev pub start_rows : Option Stream → List Row
+start_rows stream = (if_stream (λ s. s.running) stream, hr.NOT_STOPPED) ∷ []
+
 abbrev pub start_plan : State → ℕ → ℕ → Plan
 start_plan st conn client = plain
     (connection_row conn st
     ∷ client_row conn client st
     ∷ stream_rows (stream_at client st.stage)
-    ++ (if_stream (λ s. s.running) (stream_at client st.stage), hr.NOT_STOPPED)
-    ∷ [])
+    ++ start_rows (stream_at client st.stage))
     (granted [] (started client ∷ []) [] st)
+
+abbrev pub get_buffer_rows : Option Stream → ℕ → List Row
+get_buffer_rows stream frames =
+    (if_stream (λ s. is_some s.data'.lease) stream, hr.OUT_OF_ORDER)
+    ∷ (if_stream (λ s. nat_lt (s.room - padding s) frames) stream, hr.BUFFER_TOO_LARGE)
+    ∷ []
 
 abbrev pub get_buffer_plan : State → ℕ → ℕ → ℕ → Plan
 get_buffer_plan st conn client frames = plain
     (connection_row conn st
     ∷ client_row conn client st
     ∷ stream_rows (stream_at client st.stage)
-    ++ (if_stream (λ s. is_some s.data'.lease) (stream_at client st.stage), hr.OUT_OF_ORDER)
-    ∷ (if_stream (λ s. nat_lt (s.room - padding s) frames) (stream_at client st.stage), hr.BUFFER_TOO_LARGE)
-    ∷ [])
+    ++ get_buffer_rows (stream_at client st.stage) frames)
     (granted [] (leased client frames ∷ []) [] st)
 
 -- AUDCLNT_BUFFERFLAGS_SILENT
@@ -228,15 +236,12 @@ abbrev pub frames_released : ℕ → ℕ → List ℕ → ℕ → List Frame
 frames_released frames flags bytes channels =
     if flags == silent then replicate frames (replicate channels (pos 0)) else frames_from frames channels bytes
 
-abbrev pub release_rows : State → ℕ → ℕ → ℕ → ℕ → List ℕ → List Row
-release_rows st conn client frames flags bytes =
-    connection_row conn st
-    ∷ client_row conn client st
-    ∷ stream_rows (stream_at client st.stage)
-    ++ (if_stream (λ s. is_none s.data'.lease) (stream_at client st.stage), hr.OUT_OF_ORDER)
-    ∷ (if_stream (is_lease_below frames) (stream_at client st.stage), hr.INVALID_SIZE)
-    ∷ (if_stream (has_wrong_data frames flags bytes) (stream_at client st.stage), hr.E_INVALIDARG)
-    ∷ (if_stream (λ s. nat_lt worn (s.data'.released + frames)) (stream_at client st.stage), hr.WORN)
+abbrev pub release_rows : Option Stream → ℕ → ℕ → List ℕ → List Row
+release_rows stream frames flags bytes =
+    (if_stream (λ s. is_none s.data'.lease) stream, hr.OUT_OF_ORDER)
+    ∷ (if_stream (is_lease_below frames) stream, hr.INVALID_SIZE)
+    ∷ (if_stream (has_wrong_data frames flags bytes) stream, hr.E_INVALIDARG)
+    ∷ (if_stream (λ s. nat_lt worn (s.data'.released + frames)) stream, hr.WORN)
     ∷ []
 
 abbrev pub released_of : State → Option Stream → ℕ → ℕ → ℕ → List ℕ → Outcome
@@ -245,8 +250,12 @@ released_of st (Some s) client frames flags bytes =
     granted [] (released client (frames_released frames flags bytes s.channels) ∷ []) [] st
 
 abbrev pub release_plan : State → ℕ → ℕ → ℕ → ℕ → List ℕ → Plan
-release_plan st conn client frames flags bytes =
-    plain (release_rows st conn client frames flags bytes) (released_of st (stream_at client st.stage) client frames flags bytes)
+release_plan st conn client frames flags bytes = plain
+    (connection_row conn st
+    ∷ client_row conn client st
+    ∷ stream_rows (stream_at client st.stage)
+    ++ release_rows (stream_at client st.stage) frames flags bytes)
+    (released_of st (stream_at client st.stage) client frames flags bytes)
 
 -- ---- Period
 

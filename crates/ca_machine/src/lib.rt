@@ -1,4 +1,4 @@
 //! The one-thread machine of the service: what each event answers, does and gives to the devices, and its laws.
 #![tactic(auto)]
 
-mod laws;
+pub mod laws;

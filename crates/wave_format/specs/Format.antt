@@ -75,16 +75,20 @@ unless_fault (Some number) format = Err (record { 0 = number })
 abbrev pub format_at : List ℕ → Result Format FormatFault
 format_at bytes = unless_fault (first (fault_rows bytes)) (spelled bytes)
 
--- the bytes of a format: WAVEFORMATEX with tag 1, 16 bits and cbSize 0
-abbrev pub spelling : Format → List ℕ
-spelling format =
-    to_le_bytes w16 1
+-- the 18 bytes of a WAVEFORMATEX with a tag and a cbSize: tag, channels, rate, average bytes, block align, 16 bits, cbSize
+abbrev pub head : ℕ → ℕ → Format → List ℕ
+head tag extra format =
+    to_le_bytes w16 tag
     ++ to_le_bytes w16 format.channels
     ++ to_le_bytes w32 format.rate
     ++ to_le_bytes w32 (format.rate * (format.channels * 2))
     ++ to_le_bytes w16 (format.channels * 2)
     ++ to_le_bytes w16 16
-    ++ to_le_bytes w16 0
+    ++ to_le_bytes w16 extra
+
+-- the bytes of a format: WAVEFORMATEX with tag 1, WAVE_FORMAT_PCM, and cbSize 0
+abbrev pub spelling : Format → List ℕ
+spelling format = head 1 0 format
 
 -- a format that bytes can spell: 1 to 4 channels and a listed rate (this project's own), and no mask, since it isn't extensible
 pub record IsLawful (format : Format) : Type 0 where

@@ -1,12 +1,17 @@
 -- Frames: one sample a channel. In the model a frame is a list of numbers from -32768 to 32767; in a store it is one word of 64 bits.
-use Rattle.std.specs.Prelude.{ℕ, zero, suc, ◌+◌, ◌*◌, ◌/◌, ◌%◌, ◌^◌, List, [], ◌∷◌, take, drop, map, ℤ}
+use Rattle.std.specs.Prelude.{◌≡◌, ◌<◌, length, slice_index, ℕ, zero, suc, ◌+◌, ◌*◌, ◌/◌, ◌%◌, ◌^◌, List, [], ◌∷◌, take, drop, map, ℤ}
 use Rattle.std.specs.List.{flat_map, range_with_len, AllByRecursion}
 use Rattle.std.specs.Int.{w16, cast_unsigned, cast_signed, to_le_bytes, from_le_bytes}
 use Rattle.std.specs.Int.RustNames.{FitsSigned}
 
--- each sample is a signed 16-bit number (WAVEFORMATEX: wBitsPerSample 16)
-abbrev pub AreSamples : List ℤ → Type 0
-AreSamples samples = AllByRecursion (FitsSigned w16) samples
+-- a frame: as many samples as the stream has channels, each from -32768 to 32767 (WAVEFORMATEX: nChannels, wBitsPerSample)
+pub record IsFrame (channels : ℕ) (samples : List ℤ) : Type 0 where
+  pub count : length samples ≡ channels
+  pub within : AllByRecursion (FitsSigned w16) samples
+
+-- each is a byte
+abbrev pub AreBytes : List ℕ → Type 0
+AreBytes bytes = (place : ℕ) → slice_index bytes place < 256
 
 -- the frame word: channel c in bits 16c to 16c + 15, in two's complement (this project's own)
 abbrev pub word_of : List ℤ → ℕ

@@ -1,7 +1,9 @@
 //! Formats of sound (WAVEFORMATEX of mmreg.h) and their bytes.
 
-ghost use Rattle.std.specs.Prelude.{◌≡◌, ℕ, ◌+◌, ◌≤◌, length};
-ghost use Rattle.wave_format.specs.Format.{field, fault_rows, first, format_at};
+ghost use Rattle.std.specs.Prelude.{◌≡◌, ℕ, ◌+◌, ◌≤◌, ◌++◌, length, IsOk, OnOk, OnErr};
+ghost use Rattle.wave_format.specs.Format.{IsLawful, fault_rows, field, first, format_at, frames_of_time, head, spelling, tag_of};
+
+use ca_base::{Bytes, NoMemory};
 
 /// A format of sound: signed samples of 16 bits, little-endian, one a channel in each frame.
 #[derive(Clone, Copy, Debug, PartialEq, Eq)]
@@ -100,4 +102,49 @@ pub fn read_format(bytes: &[u8]) -> Result<Format, FormatFault>
         extensible: false,
         mask: 0,
     })
+}
+
+/// The tag of these bytes (WAVEFORMATEX, wFormatTag), where there are two.
+pub fn format_tag(bytes: &[u8]) -> Option<u16>
+    ensures { result ≡ tag_of bytes.now }
+{
+    if bytes.len() < 2 {
+        return None;
+    }
+    Some(short_at(bytes, 0))
+}
+
+/// The 18 bytes of a format with this tag and this cbSize (WAVEFORMATEX).
+fn head_bytes(format: &Format, tag: u16, extra: u16) -> [u8; 18]
+    requires { IsLawful format.now }
+    ensures { result ≡ head tag extra format.now }
+{
+    let block = format.channels * 2;
+    let [t0, t1] = tag.to_le_bytes();
+    let [c0, c1] = format.channels.to_le_bytes();
+    let [r0, r1, r2, r3] = format.rate.to_le_bytes();
+    let [a0, a1, a2, a3] = (format.rate * block as u32).to_le_bytes();
+    let [b0, b1] = block.to_le_bytes();
+    let [e0, e1] = extra.to_le_bytes();
+    [
+        t0, t1, c0, c1, r0, r1, r2, r3, a0, a1, a2, a3, b0, b1, 16, 0, e0, e1,
+    ]
+}
+
+/// Adds the bytes of a format. It asks for memory only where there is no room, and `NoMemory` leaves the bytes as they were.
+pub fn write_format(f: &Format, out: &mut Bytes) -> Result<(), NoMemory>
+    requires { IsLawful f.now }
+    ensures ok { OnOk result (out.new.list ≡ out.old.list ++ spelling f.now) }
+    ensures keeps { out.old.room ≤ out.new.room }
+    ensures fits { length out.old.list + length (spelling f.now) ≤ out.old.room → IsOk result }
+    ensures err { OnErr result (out.new.list ≡ out.old.list) }
+{
+    out.append(&head_bytes(f, PLAIN_TAG, 0))
+}
+
+/// How many frames last a time in units of 100 ns, rounded up.
+pub fn frames_of(rate: u32, t: u64) -> u128
+    ensures { result ≡ frames_of_time rate t }
+{
+    (rate as u128 * t as u128 + 9_999_999) / 10_000_000
 }

@@ -1,0 +1,42 @@
+-- A source and a sink in memory, whose failing calls are chosen by number. This project's own.
+use Rattle.std.specs.Prelude.{ℕ, ◌+◌, ◌-◌, ◌^◌, ◌==◌, min, Bool, List, ◌++◌, drop}
+use Rattle.std.specs.List.{list_any}
+
+-- what a source has left, how many calls were made, the numbers of the calls that fail, and how many calls failed
+pub record SourceState : Type 0 where
+  pub left : List ℕ
+  pub calls : ℕ
+  pub failing : List ℕ
+  pub faults : ℕ
+
+-- what was written to a sink, how many bytes it takes in all, and its calls as for a source
+pub record SinkState : Type 0 where
+  pub written : List ℕ
+  pub room : ℕ
+  pub calls : ℕ
+  pub failing : List ℕ
+  pub faults : ℕ
+
+-- a count after one more: it stands still at 2^64 - 1
+abbrev pub raised : ℕ → ℕ
+raised n = min (n + 1) (2 ^ 64 - 1)
+
+-- whether the call that follows so many, the first having number 1, is one of those that fail
+abbrev pub is_failing : ℕ → List ℕ → Bool
+is_failing calls failing = list_any (λ n. n == raised calls) failing
+
+-- a source after a call that gave so many bytes
+abbrev pub source_gave : ℕ → SourceState → SourceState
+source_gave n s = record { left = drop n s.left; calls = raised s.calls; failing = s.failing; faults = s.faults }
+
+-- a source after a call that failed
+abbrev pub source_failed : SourceState → SourceState
+source_failed s = record { left = s.left; calls = raised s.calls; failing = s.failing; faults = raised s.faults }
+
+-- a sink after a call that took these bytes
+abbrev pub sink_took : List ℕ → SinkState → SinkState
+sink_took front s = record { written = s.written ++ front; room = s.room; calls = raised s.calls; failing = s.failing; faults = s.faults }
+
+-- a sink after a call that failed
+abbrev pub sink_failed : SinkState → SinkState
+sink_failed s = record { written = s.written; room = s.room; calls = raised s.calls; failing = s.failing; faults = raised s.faults }

@@ -1,0 +1,3 @@
+pub mod FrameLaws
+pub mod BlockLaws
+pub mod FormatLaws
