@@ -29,3 +29,6 @@ pub nothing_appended : (a b : Option (List ℕ)) (piece : List ℕ) → Appends 
 nothing_appended None b piece p = tt
 nothing_appended (Some x) None piece p = p
 nothing_appended (Some x) (Some y) piece p = p ∙ append-nil x
+
+-- what several tries, of which the last moves some bytes, did together
+pub ruleset after_tries = (keeps_all, keeps_on, kept_consumes, kept_appends, nothing_appended)

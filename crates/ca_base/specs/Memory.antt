@@ -1,5 +1,5 @@
 -- A source and a sink in memory, whose failing calls are chosen by number. This project's own.
-use Rattle.std.specs.Prelude.{ℕ, ◌+◌, ◌-◌, ◌^◌, ◌==◌, min, Bool, List, ◌++◌, drop}
+use Rattle.std.specs.Prelude.{ℕ, ◌+◌, ◌-◌, ◌^◌, ◌==◌, min, Bool, List, [], ◌++◌, length, drop}
 use Rattle.std.specs.List.{list_any}
 
 -- what a source has left, how many calls were made, the numbers of the calls that fail, and how many calls failed
@@ -16,6 +16,18 @@ pub record SinkState : Type 0 where
   pub calls : ℕ
   pub failing : List ℕ
   pub faults : ℕ
+
+-- a source to which no call was made
+abbrev pub new_source : List ℕ → List ℕ → SourceState
+new_source bytes failing = record { left = bytes; calls = 0; failing = failing; faults = 0 }
+
+-- a sink to which no call was made
+abbrev pub new_sink : ℕ → List ℕ → SinkState
+new_sink room failing = record { written = []; room = room; calls = 0; failing = failing; faults = 0 }
+
+-- how many bytes a sink still takes
+abbrev pub room_left : SinkState → ℕ
+room_left s = s.room - length s.written
 
 -- a count after one more: it stands still at 2^64 - 1
 abbrev pub raised : ℕ → ℕ

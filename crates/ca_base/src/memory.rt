@@ -1,8 +1,9 @@
 //! A source and a sink in memory, for runs whose failing calls are chosen.
 
-ghost use Rattle.std.specs.Prelude.{◌≡◌, ◌-◌, ◌<◌, ◌≤◌, ◌↔◌, ◌==◌, ◌||◌, [], ◌++◌, length, min, take, drop, Some, IfOk, OnErr, IsErr, IsTrue};
+ghost use Rattle.std.specs.Prelude.{◌≡◌, ◌<◌, ◌↔◌, ◌==◌, ◌||◌, ◌++◌, length, min, take, drop, Some, IfOk, OnErr, IsErr, IsTrue};
 ghost use Rattle.ca_base.specs.Faults.{Counts};
-ghost use Rattle.ca_base.specs.Memory.{is_failing, source_gave, source_failed, sink_took, sink_failed};
+ghost use Rattle.ca_base.specs.Memory.{new_source, new_sink, room_left, is_failing};
+ghost use Rattle.ca_base.specs.Memory.{source_gave, source_failed, sink_took, sink_failed};
 
 use crate::{Bytes, Failed, NoMemory, Sink, Source};
 use std::alloc::Global;
@@ -24,7 +25,12 @@ impl Model for MemSource {
 
     ghost Value = { SourceState };
 
-    ghost view = { λ s. record { left = drop s.given s.bytes.list; calls = s.calls; failing = s.failing.items; faults = s.faults } };
+    ghost view = { λ s. record {
+      left = drop s.given s.bytes.list;
+      calls = s.calls;
+      failing = s.failing.items;
+      faults = s.faults;
+    } };
 
     ghost invariant = { λ s. s.given ≤ length s.bytes.list };
 }
@@ -32,7 +38,7 @@ impl Model for MemSource {
 impl MemSource {
     /// A source of these bytes, whose calls with these numbers fail.
     pub fn new(bytes: Bytes, failing: Vec<u64>) -> MemSource
-        ensures { result ≡ record { left = bytes.list; calls = 0; failing = failing.items; faults = 0 } }
+        ensures { result ≡ new_source bytes.list failing.items }
     {
         MemSource {
             bytes,
@@ -96,7 +102,13 @@ impl Model for MemSink {
 
     ghost Value = { SinkState };
 
-    ghost view = { λ s. record { written = s.bytes.list; room = s.room; calls = s.calls; failing = s.failing.items; faults = s.faults } };
+    ghost view = { λ s. record {
+      written = s.bytes.list;
+      room = s.room;
+      calls = s.calls;
+      failing = s.failing.items;
+      faults = s.faults;
+    } };
 
     ghost use Rattle.ca_base.specs.WithinRoom.{WithinRoom};
 
@@ -106,7 +118,7 @@ impl Model for MemSink {
 impl MemSink {
     /// An empty sink that takes `room` bytes in all, and takes the memory for them now.
     pub fn new(alloc: Global, room: usize, failing: Vec<u64>) -> Result<MemSink, NoMemory>
-        ensures { IfOk result (λ s. s ≡ record { written = []; room = room; calls = 0; failing = failing.items; faults = 0 }) }
+        ensures { IfOk result (λ s. s ≡ new_sink room failing.items) }
     {
         let bytes = Bytes::with_room(alloc, room)?;
         Ok(MemSink {
@@ -142,8 +154,8 @@ impl Sink for MemSink {
     fn write(&mut self, piece: &[u8]) -> Result<usize, Failed>
         requires { 0 < length piece.now }
         ensures cause { Counts result self.old.faults self.new.faults }
-        ensures fails { IsErr result ↔ IsTrue (is_failing self.old.calls self.old.failing || (self.old.room - length self.old.written == 0)) }
-        ensures count { IfOk result (λ n. n ≡ min (length piece.now) (self.old.room - length self.old.written)) }
+        ensures fails { IsErr result ↔ IsTrue (is_failing self.old.calls self.old.failing || (room_left self.old == 0)) }
+        ensures count { IfOk result (λ n. n ≡ min (length piece.now) (room_left self.old)) }
         ensures ok { IfOk result (λ n. self.new ≡ sink_took (take n piece.now) self.old) }
         ensures err { OnErr result (self.new ≡ sink_failed self.old) }
     {

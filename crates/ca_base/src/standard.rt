@@ -25,6 +25,7 @@ impl<R: Read + Drop> Model for StdSource<R> {
 }
 
 impl<R: Read + Drop> StdSource<R> {
+    /// A source over this reader.
     pub fn new(reader: R) -> StdSource<R>
         ensures { result ≡ record { bytes = R.remaining reader; faults = 0 } }
     {
@@ -142,7 +143,7 @@ impl<W: Write + Drop> Sink for StdSink<W> {
 }
 
 /// One read, tried again where a signal interrupts it. `None` where it fails.
-#[tactic(auto, using(crate::proofs::Known::keeps_all, crate::proofs::Known::keeps_on, crate::proofs::Known::kept_consumes))]
+#[tactic(auto, using(crate::proofs::Known::after_tries))]
 pub fn read_once<R: Read>(reader: &mut R, buf: &mut [u8]) -> Option<usize>
     requires { 0 < length buf.old }
     ensures count { IfSome result (λ n. n ≤ length buf.new) }
@@ -161,7 +162,7 @@ pub fn read_once<R: Read>(reader: &mut R, buf: &mut [u8]) -> Option<usize>
 }
 
 /// One write of at least one byte, tried again where a signal interrupts it. `None` where it fails or takes nothing.
-#[tactic(auto, using(crate::proofs::Known::keeps_all, crate::proofs::Known::keeps_on, crate::proofs::Known::kept_appends, crate::proofs::Known::nothing_appended))]
+#[tactic(auto, using(crate::proofs::Known::after_tries))]
 pub fn write_once<W: Write>(out: &mut W, piece: &[u8]) -> Option<usize>
     ensures some { IfSome result (λ n. 0 < n) }
     ensures count { IfSome result (λ n. n ≤ length piece.now) }

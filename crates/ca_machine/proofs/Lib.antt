@@ -16,4 +16,8 @@ pub mod Begun
 pub mod Sums
 pub mod Once
 pub mod Rise
+pub mod Runs
+pub mod Told
+pub mod Whole
 mod Worked
+mod Played

@@ -91,7 +91,7 @@ numbers_turned : (x : Move) (es : List Endpoint) → map (λ e. e.number) (map (
 numbers_turned x [] = refl
 numbers_turned x (e ∷ es) = ap₂ (λ n ns. n ∷ ns) (turn_number x e) (numbers_turned x es)
 
-numbers_after : (st : Stage) (x : Move) → numbers (after_move st x) ≡ numbers st ++ map (λ e. e.number) (more_endpoints x)
+pub numbers_after : (st : Stage) (x : Move) → numbers (after_move st x) ≡ numbers st ++ map (λ e. e.number) (more_endpoints x)
 numbers_after st x = map-append (λ e. e.number) (map (turn x) st.endpoints) (more_endpoints x) ∙ ap (λ ns. ns ++ map (λ e. e.number) (more_endpoints x)) (numbers_turned x st.endpoints)
 
 not_found : (number : ℕ) (e : Endpoint) (b : Bool) (o : Option Endpoint) → cond b (Some e) o ≡ None → (b ≡ false) × (o ≡ None)

@@ -8,3 +8,4 @@ pub mod Step
 pub mod Fates
 pub mod Woven
 pub mod Laws
+pub mod Headline

@@ -1,0 +1,16 @@
+pub mod Frames
+pub mod StreamSteps
+pub mod Rows
+pub mod Texts
+pub mod MixOne
+pub mod Actions
+pub mod Playing
+pub mod PeriodStates
+pub mod Sounding
+pub mod StreamLemmas
+pub mod FrontLemmas
+pub mod GrowthLemmas
+pub mod StreamTurns
+pub mod Gets
+pub mod Granted
+pub mod Asked

@@ -1,0 +1,16 @@
+use Rattle.std.proofs.Common.{[], refl, sym}
+use Rattle.ca_machine.specs.Tables.{start_plan}
+use Rattle.audio_daemon.specs.Service.{state_of}
+use Rattle.audio_daemon.proofs.Gets.{gets_refused, gets_plain}
+use Rattle.audio_daemon.proofs.machine.service.Service.answer_start.Goals as goal
+
+pub returns-in-Some : goal.returns-in-Some
+returns-in-Some c =
+    let st = state_of c.args.self.now in
+    gets_refused st (start_plan st c.args.conn.0 c.args.client.0) c.in-Some.code c.built.result [] st (sym c.in-Some.ensures.row) c.built.ensures refl refl
+
+pub returns : goal.returns
+returns c =
+    let st = state_of c.args.self.now in
+    let plan = start_plan st c.args.conn.0 c.args.client.0 in
+    gets_plain st plan.rows (plan.grants []) _ [] (state_of c.start.new.self) (sym c.in_default.ensures.row) refl refl refl c.start.ensures

@@ -1,0 +1,13 @@
+pub mod Streams
+pub mod Words
+pub mod Service
+pub mod Release
+pub mod Actions
+pub mod Period
+pub mod Playing
+pub mod Sounding
+pub mod Machine
+pub mod Pieces
+pub mod Stream
+pub mod Turns
+pub mod Gets

@@ -1,0 +1,7 @@
+//! The audio service.
+#![tactic(auto)]
+
+mod machine;
+mod stream;
+
+fn main() {}

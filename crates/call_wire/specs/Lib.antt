@@ -1,0 +1,4 @@
+pub mod Laws
+pub mod Next
+pub mod Reading
+pub mod Runs

@@ -1,0 +1,20 @@
+//! Events and replies as bytes, and the desk that answers events.
+#![tactic(auto)]
+
+mod calls;
+mod desk;
+mod devices;
+mod events;
+mod fault;
+mod fields;
+pub mod laws;
+mod reading;
+mod writing;
+
+pub use ca_model::{Call, DeviceEvent, Event, Reply};
+pub use desk::Desk;
+pub use reading::{Step, next_event};
+pub use writing::write_reply;
+
+#[cfg(test)]
+mod tests;

@@ -1,0 +1,160 @@
+use super::*;
+use ca_base::{Bytes, Hr};
+use std::test::*;
+
+/// A Period of endpoint 1.
+const PERIOD: [u8; 9] = [5, 0, 0, 0, 4, 1, 0, 0, 0];
+
+/// Its reply: S_OK, 480 frames, and no device call that failed.
+const REPLY: [u8; 19] = [15, 0, 0, 0, 4, 0, 0, 0, 0, 0, 0, 0, 0, 0, 224, 1, 0, 0, 0];
+
+/// Initialize on connection 2 with tag 7: client 3, shared, one second, 48,000 Hz with two channels.
+const INITIALIZE: [u8; 79] = [
+    75, 0, 0, 0, 3, 2, 7, 0, 0, 0, 16, // the call
+    3, 0, 0, 0, 0, 0, 0, 0, 0, 0, 0, 0, 0, 0, 0, 0, // client, share, flags
+    128, 150, 152, 0, 0, 0, 0, 0, 0, 0, 0, 0, 0, 0, 0, 0, // duration, period
+    18, 0, 1, 0, 2, 0, 128, 187, 0, 0, 0, 238, 2, 0, 4, 0, 16, 0, 0, 0, // format
+    0, 17, 34, 51, 68, 85, 102, 119, 136, 153, 170, 187, 204, 221, 238, 255, // session
+];
+
+fn body_is_malformed(rt: HostRuntime, body: &[u8]) -> Result<bool, Fail> {
+    let length = u32::try_from(body.len())
+        .ok()
+        .ok_or("a body of lawful length")?;
+    let mut frame = Vec::new(rt.alloc());
+    frame.extend_from_slice(&length.to_le_bytes())?;
+    frame.extend_from_slice(body)?;
+    Ok(matches!(next_event(rt.alloc(), &frame), Ok(Step::Malformed)))
+}
+
+#[test]
+fn a_period_is_read(rt: HostRuntime) -> Result<(), Fail> {
+    let Step::Event { event, used } = next_event(rt.alloc(), &PERIOD).ok().ok_or("memory")? else {
+        return Err("the bytes are an event".into());
+    };
+    assert_eq!(rt; used, 9);
+    let Event::Period { endpoint } = event else {
+        return Err("the event is a Period".into());
+    };
+    assert_eq!(rt; endpoint.0, 1);
+    Ok(())
+}
+
+#[test]
+fn an_initialize_is_read(rt: HostRuntime) -> Result<(), Fail> {
+    let step = next_event(rt.alloc(), &INITIALIZE).ok().ok_or("memory")?;
+    let Step::Event { event, used } = step else {
+        return Err("the bytes are an event".into());
+    };
+    assert_eq!(rt; used, 79);
+    let Event::Call { conn, tag, call } = event else {
+        return Err("the event is a Call".into());
+    };
+    assert_eq!(rt; (conn.0, tag), (2, 7));
+    let Call::Initialize {
+        client,
+        duration,
+        format,
+        session,
+        ..
+    } = call
+    else {
+        return Err("the call is Initialize".into());
+    };
+    assert_eq!(rt; (client.0, duration), (3, 10_000_000));
+    assert_eq!(rt; format.as_slice(), &INITIALIZE[45..63]);
+    assert_eq!(rt; session.0, 0x0011_2233_4455_6677_8899_aabb_ccdd_eeff);
+    Ok(())
+}
+
+#[test]
+fn a_code_that_is_not_listed_is_read(rt: HostRuntime) -> Result<(), Fail> {
+    let bytes = [9, 0, 0, 0, 3, 32, 1, 0, 0, 0, 0, 8, 9, 255];
+    let step = next_event(rt.alloc(), &bytes).ok().ok_or("memory")?;
+    let Step::Event { event, used } = step else {
+        return Err("the bytes are an event".into());
+    };
+    assert_eq!(rt; used, 13);
+    let Event::Call { call, .. } = event else {
+        return Err("the event is a Call".into());
+    };
+    let Call::Other { code, rest } = call else {
+        return Err("the code is not listed".into());
+    };
+    assert_eq!(rt; code, 0);
+    assert_eq!(rt; rest.as_slice(), [8, 9].as_slice());
+    Ok(())
+}
+
+#[test]
+fn a_cut_frame_needs_more(rt: HostRuntime) {
+    for len in 0..PERIOD.len() {
+        let step = next_event(rt.alloc(), &PERIOD[..len]);
+        assert!(rt; matches!(step, Ok(Step::NeedMore)), "at {len}");
+    }
+    let longest = next_event(rt.alloc(), &[0, 0, 64, 0]);
+    assert!(rt; matches!(longest, Ok(Step::NeedMore)));
+}
+
+#[test]
+fn an_unlawful_length_is_malformed(rt: HostRuntime) {
+    let nothing = next_event(rt.alloc(), &[0, 0, 0, 0]);
+    assert!(rt; matches!(nothing, Ok(Step::Malformed)));
+    let too_long = next_event(rt.alloc(), &[1, 0, 64, 0]);
+    assert!(rt; matches!(too_long, Ok(Step::Malformed)));
+}
+
+#[test]
+fn bodies_of_no_event_are_malformed(rt: HostRuntime) -> Result<(), Fail> {
+    let unknown = [0, 2, 6, 7, 8, 255];
+    for kind in unknown {
+        assert!(rt; body_is_malformed(rt, &[kind])?, "kind {kind}");
+        assert!(rt; body_is_malformed(rt, &[kind, 1])?, "kind {kind} of one");
+    }
+    assert!(rt;
+        body_is_malformed(rt, &[1, 0, 9, 0, 0, 0, 0, 0])?,
+        "connection 0"
+    );
+    assert!(rt;
+        body_is_malformed(rt, &[1, 33, 9, 0, 0, 0, 0, 0])?,
+        "connection 33"
+    );
+    assert!(rt; body_is_malformed(rt, &[4, 1, 0, 0])?, "a byte too short");
+    assert!(rt;
+        body_is_malformed(rt, &[4, 1, 0, 0, 0, 0])?,
+        "a byte too long"
+    );
+    Ok(())
+}
+
+#[test]
+fn a_text_has_at_most_256_bytes(rt: HostRuntime) -> Result<(), Fail> {
+    let mut longest = vec![in rt.alloc(); 1, 1, 9, 0, 0, 0, 0, 1]?;
+    let mut longer = vec![in rt.alloc(); 1, 1, 9, 0, 0, 0, 1, 1]?;
+    for _ in 0..256 {
+        longest.push(97)?;
+        longer.push(97)?;
+    }
+    longer.push(97)?;
+    assert!(rt; !body_is_malformed(rt, &longest)?);
+    assert!(rt; body_is_malformed(rt, &longer)?);
+    Ok(())
+}
+
+#[test]
+fn a_reply_is_written(rt: HostRuntime) -> Result<(), Fail> {
+    let payload = Bytes::from_slice(rt.alloc(), &REPLY[14..])
+        .ok()
+        .ok_or("memory")?;
+    let reply = Reply {
+        kind: 4,
+        conn: 0,
+        tag: 0,
+        result: Hr(0),
+        payload,
+    };
+    let mut out = Bytes::new(rt.alloc());
+    write_reply(&reply, &mut out).ok().ok_or("memory")?;
+    assert_eq!(rt; out.as_slice(), REPLY.as_slice());
+    Ok(())
+}
