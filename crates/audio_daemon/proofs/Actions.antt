@@ -1,12 +1,10 @@
 -- What a step of the client's stream is to the state.
-use Rattle.std.proofs.Common.{◌≡◌, ℕ, List, [], ◌∷◌, ◌++◌, Bool, true, false, Option, Some, None, refl, sym, ap, ◌∙◌, eq-eqb, cond, subst}
+use Rattle.std.proofs.Common.{◌≡◌, ℕ, List, [], ◌∷◌, Bool, true, false, Option, Some, None, refl, sym, ap, ◌∙◌, eq-eqb, cond}
 use Rattle.std.specs.Prelude.{is_some, ◌==◌, ◌&&◌}
-use Rattle.std.specs.Option.{option_map}
-use Rattle.ca_base.specs.declared.ids.Gate.{Gate}
 use Rattle.ca_base.specs.declared.ids.Gate.TheVariants as gate
 use Rattle.ca_machine.specs.Stage as stage
 use Rattle.ca_machine.specs.Moves.{of_open, leases, releases, runs, stream_at}
-use Rattle.ca_machine.specs.Moves.Move.{leased, started, released}
+use Rattle.ca_machine.specs.Moves.Move.{leased, started}
 use Rattle.ca_machine.specs.Plan.{granted}
 use Rattle.ca_machine.specs.State.{State, Client as TheClient, client_of}
 use Rattle.ca_machine.specs.Tables.{released_of, frames_released, initialized, shared_buffer}

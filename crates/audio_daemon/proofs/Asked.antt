@@ -3,7 +3,7 @@ use Rattle.std.proofs.Common.{◌≡◌, ℕ, List, Option, refl, sym, subst}
 use Rattle.device_io.specs.Held.{Held}
 use Rattle.ca_model.specs.declared.event.Event.{Event}
 use Rattle.ca_model.specs.declared.reply.Reply.{Reply}
-use Rattle.ca_machine.specs.Step.{Entry, step, plan, event_kind, event_connection, event_tag}
+use Rattle.ca_machine.specs.Step.{step, plan, event_kind, event_connection, event_tag}
 use Rattle.audio_daemon.specs.declared.machine.service.Service.{Service}
 use Rattle.audio_daemon.specs.Service.{state_of}
 use Rattle.audio_daemon.specs.Gets.{Gets}
@@ -36,4 +36,4 @@ module _ {D : Type 0} (faults : D → ℕ) (told : D → Option (List Held)) (ol
       → reply.kind ≡ event_kind event → reply.conn ≡ event_connection event → reply.tag ≡ event_tag event → Answers faults told seen given reply new
   asked seen event given view is got kind connection tag =
       subst (λ (e : Event). Answers faults told seen e reply new) (sym is)
-          (subst (λ (o : Seen D). Answers faults told o event reply new) view (answered event got kind connection tag))
+      (subst (λ (o : Seen D). Answers faults told o event reply new) view (answered event got kind connection tag))

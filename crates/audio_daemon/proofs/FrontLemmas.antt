@@ -1,4 +1,5 @@
 -- What stands at the front of some bytes, and what became of it.
+use Rattle.call_wire.specs.Runs.{Runs}
 use Rattle.std.proofs.Common.{◌≡◌, ℕ, ◌<◌, List, [], ◌∷◌, length, take, drop, Option, refl, sym, ap, subst, inl, inr, arith, ◌⊎◌}
 use Rattle.std.proofs.lemmas.List.{append-nil, length-append, length-take}
 use Rattle.std.specs.Io.KnownBytes.{Appends}
@@ -64,7 +65,7 @@ front-stopped answers stays bytes e used old new before after stop.WriteFault h 
 front-stopped {M} answers stays bytes e used old new before after stop.NoMemory h one =
     reached one.reached
   where
-    reached : ((reply : Reply) × answers old e reply new) ⊎ stays old new → EndsNoMemory answers stays (holding bytes before old) (holding [] after new)
+    reached : ((reply : Reply) × answers old e reply new) ⊎ stays old new → EndsNoMemory (Runs answers) stays (holding bytes before old) (holding [] after new)
     reached (inl r) = record {
       events = e ∷ [];
       replies = r.0 ∷ [];
@@ -89,7 +90,7 @@ front-stopped {M} answers stays bytes e used old new before after stop.NoMemory 
     }
 
 -- memory ran out before an event was read
-pub front-unread : {M : Type 0} (answers : M → Event → Reply → M → Type 0) (stays : M → M → Type 0) (bytes : List ℕ) (old : M) (before : Option (List ℕ)) → EndsNoMemory answers stays (holding bytes before old) (holding [] before old)
+pub front-unread : {M : Type 0} (answers : M → Event → Reply → M → Type 0) (stays : M → M → Type 0) (bytes : List ℕ) (old : M) (before : Option (List ℕ)) → EndsNoMemory (Runs answers) stays (holding bytes before old) (holding [] before old)
 front-unread answers stays bytes old before = record {
   events = [];
   replies = [];

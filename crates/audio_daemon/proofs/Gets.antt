@@ -1,15 +1,14 @@
 -- What an event got, by the first row of its table that holds.
-use Rattle.std.proofs.Common.{◌≡◌, ℕ, List, [], ◌∷◌, Bool, true, false, Option, Some, None, refl, sym, ap, subst, ◌∙◌}
+use Rattle.std.proofs.Common.{◌≡◌, ℕ, List, [], ◌∷◌, Bool, true, false, Option, Some, None, refl, sym, subst}
 use Rattle.std.specs.Option.{option_map}
 use Rattle.ca_base.specs.declared.codes.Hr.{Hr}
 use Rattle.ca_base.specs.declared.codes.TheConstants.Hr as hr
 use Rattle.device_io.specs.Held.{Held, add_all}
 use Rattle.ca_model.specs.Rows.{Row, first}
 use Rattle.ca_machine.specs.State.{State}
-use Rattle.ca_machine.specs.Plan.{Plan, Outcome, Answer, built, refused, plain, with_memory, unless_refused, unless_row, asked_of, outcome_of, granted, if_found}
+use Rattle.ca_machine.specs.Plan.{Plan, Outcome, built, plain, with_memory}
 use Rattle.ca_machine.specs.Plan.Answer.{found, short}
-use Rattle.ca_machine.specs.Plan.Asked.{memory, nothing}
-use Rattle.audio_daemon.specs.Gets.{Gets, Has}
+use Rattle.audio_daemon.specs.Gets.{Has}
 
 same_told : (told : Option (List Held)) → told ≡ option_map (add_all []) told
 same_told None = refl

@@ -1,12 +1,12 @@
 -- What calls get that look up a client or a stream.
-use Rattle.std.proofs.Common.{◌≡◌, ℕ, ◌+◌, List, [], ◌∷◌, ◌++◌, length, Bool, true, false, Option, Some, None, refl, sym, ap, ◌∙◌}
+use Rattle.std.proofs.Common.{◌≡◌, ℕ, ◌+◌, List, [], ◌∷◌, length, false, Option, Some, None, refl, sym, ap}
 use Rattle.std.specs.Prelude.{is_none, not, ◌==◌, ◌||◌}
 use Rattle.std.specs.Int.{w64, to_le_bytes}
 use Rattle.ca_base.specs.declared.codes.TheConstants.Hr as hr
 use Rattle.ca_model.specs.Rows.{first, Row}
 use Rattle.ca_machine.specs.Stage as stage
 use Rattle.ca_machine.specs.Moves.{stream_at}
-use Rattle.ca_machine.specs.Plan.{Outcome, Plan}
+use Rattle.ca_machine.specs.Plan.{Outcome}
 use Rattle.ca_machine.specs.State.{State, Client as TheClient, client_of}
 use Rattle.ca_machine.specs.Tables.{initialized, released_of, initialize_plan, release_plan, connection_row, client_row, release_rows, opening_rows, if_stream, is_shut_down, has_later_flag, is_extensible}
 use Rattle.audio_daemon.specs.declared.machine.service.Endpoint.{Endpoint}

@@ -74,7 +74,7 @@ omit-then u v w rs rs' h (last_unwritten front last e k) =
     last_unwritten (rs ++ front) last (ap (λ (t : List Reply). rs ++ t) e ∙ sym (append_assoc rs front (last ∷ []))) (wrote-then u v w rs front h k)
 
 -- events that were answered, and more of them in what was held
-pub answered-then : {M : Type 0} (answers : M → Event → Reply → M → Type 0) (a b : Moment M) (es : List Event) (rs : List Reply) (held : List ℕ) (written : Option (List ℕ)) (desk : M) (es' : List Event) (rs' : List Reply) (tail : List ℕ) → Answered answers a b es rs held → Answered answers (holding held b.written b.desk) (holding [] written desk) es' rs' tail → Answered answers a (moment b.left written desk) (es ++ es') (rs ++ rs') tail
+pub answered-then : {M : Type 0} (answers : M → Event → Reply → M → Type 0) (a b : Moment M) (es : List Event) (rs : List Reply) (held : List ℕ) (written : Option (List ℕ)) (desk : M) (es' : List Event) (rs' : List Reply) (tail : List ℕ) → Answered (Runs answers) a b es rs held → Answered (Runs answers) (holding held b.written b.desk) (holding [] written desk) es' rs' tail → Answered (Runs answers) a (moment b.left written desk) (es ++ es') (rs ++ rs') tail
 answered-then answers a b es rs held written desk es' rs' tail h k = record {
   read = read-then a.left b.left es es' held tail h.read k.read;
   each = each-then IsEvent es es' h.each k.each;
@@ -83,7 +83,7 @@ answered-then answers a b es rs held written desk es' rs' tail h k = record {
 }
 
 -- events that were answered, and more of them in what was held, up to a fault of the sink
-pub write_fault-then : {M : Type 0} (answers : M → Event → Reply → M → Type 0) (a b : Moment M) (es : List Event) (rs : List Reply) (held : List ℕ) (written : Option (List ℕ)) (desk : M) → Answered answers a b es rs held → EndsWriteFault answers (holding held b.written b.desk) (holding [] written desk) → EndsWriteFault answers a (moment b.left written desk)
+pub write_fault-then : {M : Type 0} (answers : M → Event → Reply → M → Type 0) (a b : Moment M) (es : List Event) (rs : List Reply) (held : List ℕ) (written : Option (List ℕ)) (desk : M) → Answered (Runs answers) a b es rs held → EndsWriteFault (Runs answers) (holding held b.written b.desk) (holding [] written desk) → EndsWriteFault (Runs answers) a (moment b.left written desk)
 write_fault-then answers a b es rs held written desk h k = record {
   events = es ++ k.events;
   replies = rs ++ k.replies;
@@ -95,7 +95,7 @@ write_fault-then answers a b es rs held written desk h k = record {
 }
 
 -- events that were answered, and more of them in what was held, until memory ran out
-pub no_memory-then : {M : Type 0} (answers : M → Event → Reply → M → Type 0) (stays : M → M → Type 0) (a b : Moment M) (es : List Event) (rs : List Reply) (held : List ℕ) (written : Option (List ℕ)) (desk : M) → Answered answers a b es rs held → EndsNoMemory answers stays (holding held b.written b.desk) (holding [] written desk) → EndsNoMemory answers stays a (moment b.left written desk)
+pub no_memory-then : {M : Type 0} (answers : M → Event → Reply → M → Type 0) (stays : M → M → Type 0) (a b : Moment M) (es : List Event) (rs : List Reply) (held : List ℕ) (written : Option (List ℕ)) (desk : M) → Answered (Runs answers) a b es rs held → EndsNoMemory (Runs answers) stays (holding held b.written b.desk) (holding [] written desk) → EndsNoMemory (Runs answers) stays a (moment b.left written desk)
 no_memory-then answers stays a b es rs held written desk h k = record {
   events = es ++ k.events;
   replies = rs ++ k.replies;
@@ -125,7 +125,7 @@ held-start answers bytes written desk = record {
 -- one more event is answered
 pub held-more : {M : Type 0} (answers : M → Event → Reply → M → Type 0) (bytes : List ℕ) (written : Option (List ℕ)) (desk : M) (written' : Option (List ℕ)) (desk' : M) (written'' : Option (List ℕ)) (desk'' : M) (used more : ℕ) → AnswersHeld answers bytes (holding bytes written desk) (holding [] written' desk') used → AnswersFront answers (drop used bytes) (holding (drop used bytes) written' desk') (holding [] written'' desk'') more → AnswersHeld answers bytes (holding bytes written desk) (holding [] written'' desk'') (used + more)
 held-more answers bytes written desk written' desk' written'' desk'' used more h k =
-    let P : List ℕ → Type 0 = λ t. Answered answers (holding bytes written desk) (holding [] written'' desk'') (h.events ++ (k.event ∷ [])) (h.replies ++ (k.reply ∷ [])) t in
+    let P : List ℕ → Type 0 = λ t. Answered (Runs answers) (holding bytes written desk) (holding [] written'' desk'') (h.events ++ (k.event ∷ [])) (h.replies ++ (k.reply ∷ [])) t in
     record {
       events = h.events ++ (k.event ∷ []);
       replies = h.replies ++ (k.reply ∷ []);

@@ -14,3 +14,5 @@ pub mod StreamTurns
 pub mod Gets
 pub mod Granted
 pub mod Asked
+pub mod Replays
+pub mod RunStatus

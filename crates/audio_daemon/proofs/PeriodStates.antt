@@ -1,5 +1,5 @@
 -- The states of a period of the one endpoint.
-use Rattle.std.proofs.Common.{◌≡◌, ℕ, List, [], ◌∷◌, Bool, true, false, Option, Some, None, refl, sym, ap, subst, ◌∙◌, cond, eq-eqb}
+use Rattle.std.proofs.Common.{◌≡◌, ℕ, List, [], ◌∷◌, Bool, true, false, Option, Some, None, refl, sym, subst, eq-eqb}
 use Rattle.std.specs.Prelude.{is_none, ◌==◌, ◌&&◌}
 use Rattle.ca_machine.specs.Moves.{is_playing, is_there, after_moves, sub_steps}
 use Rattle.audio_daemon.specs.Playing.{plays, ends}
@@ -10,7 +10,7 @@ use Rattle.audio_daemon.specs.declared.machine.service.Client.{Client}
 use Rattle.audio_daemon.specs.declared.machine.stream.Stream.{Stream}
 use Rattle.audio_daemon.specs.Streams.{streams_in}
 use Rattle.audio_daemon.specs.Service.{endpoint_of, endpoints_of, streams_of}
-use Rattle.audio_daemon.specs.Period.{DueBytes, goes_on, played_state, finished_state}
+use Rattle.audio_daemon.specs.Period.{DueBytes, goes_on}
 
 at_one : (e new : Endpoint) (cl : Option Client) (st : Option Stream) → (is_none cl ≡ true → is_none st ≡ true)
     → ((client : ℕ) (endpoints : List stage.Endpoint) → new.block.items ≡ bytes_due (endpoint_of e) (record { endpoints = endpoints; streams = streams_in client e.number.0 e.format.channels st }))

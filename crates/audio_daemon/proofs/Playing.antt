@@ -1,16 +1,15 @@
 -- What a period plays of one stream, and how it ends it.
-use Rattle.std.proofs.Common.{◌≡◌, ℕ, ◌+◌, ◌-◌, ◌*◌, ◌≤◌, min, List, [], ◌∷◌, ◌++◌, length, map, take, replicate, Bool, true, false, Option, Some, None, refl, sym, ap, subst, ◌∙◌, cond, eq-eqb, arith}
-use Rattle.std.specs.Prelude.{◌==◌, ◌&&◌, is_none}
+use Rattle.std.proofs.Common.{◌≡◌, ℕ, ◌-◌, ◌*◌, ◌≤◌, min, List, [], ◌∷◌, ◌++◌, take, replicate, Bool, true, false, refl, sym, ap, ◌∙◌, cond, eq-eqb, arith}
+use Rattle.std.specs.Prelude.{◌==◌, ◌&&◌}
 use Rattle.std.specs.List.{flat_map, AllByRecursion}
-use Rattle.std.proofs.lemmas.List.{length-map}
 use Rattle.ca_base.specs.declared.ids.Reason.TheVariants.{Removal}
-use Rattle.wave_format.specs.Frame.{frame_bytes, frame_of, IsFrame}
+use Rattle.wave_format.specs.Frame.{frame_bytes, IsFrame}
 use Rattle.ca_machine.specs.Stage as stage
-use Rattle.ca_machine.specs.Moves.{is_playing, is_there, retires, picks, closes, picks_of, after_moves}
+use Rattle.ca_machine.specs.Moves.{is_playing, retires, picks, closes}
 use Rattle.ca_machine.specs.Mix.{sound_bytes}
 use Rattle.ca_machine.specs.Tables.{bytes_due}
 use Rattle.audio_daemon.specs.Playing.{plays, due_frames, due_bytes, ends}
-use Rattle.audio_daemon.proofs.MixOne.{sound_nothing, sound_other, sound_one, frames_of_words}
+use Rattle.audio_daemon.proofs.MixOne.{sound_nothing, sound_other, sound_one}
 
 is_itself : (n : ℕ) → (n == n) ≡ true
 is_itself n = eq-eqb n n refl

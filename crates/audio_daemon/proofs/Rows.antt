@@ -1,12 +1,11 @@
 -- Rows over a stream that was looked up.
-use Rattle.std.proofs.Common.{◌≡◌, ℕ, ◌+◌, ◌-◌, ◌*◌, ◌<◌, ◌≤◌, List, [], ◌∷◌, Bool, true, false, Option, Some, None, refl, ap, sym, ◌∙◌, cond, nat_lt}
-use Rattle.std.specs.Prelude.{is_some, is_none}
+use Rattle.std.proofs.Common.{◌≡◌, ℕ, ◌+◌, ◌-◌, ◌<◌, ◌≤◌, List, true, false, Option, Some, None, refl, ap, nat_lt}
+use Rattle.std.specs.Prelude.{is_some}
 use Rattle.std.proofs.lemmas.Bool.{le-ltb, lt-ltb}
-use Rattle.ca_base.specs.declared.codes.Hr.{Hr}
 use Rattle.ca_base.specs.declared.codes.TheConstants.Hr as hr
-use Rattle.ca_model.specs.Rows.{first, Row}
+use Rattle.ca_model.specs.Rows.{first}
 use Rattle.ca_machine.specs.Stage.{Stream, padding}
-use Rattle.ca_machine.specs.Tables.{if_stream, start_rows, get_buffer_rows, release_rows, is_lease_below, has_wrong_data, worn}
+use Rattle.ca_machine.specs.Tables.{start_rows, get_buffer_rows, release_rows, has_wrong_data, worn}
 
 module _ (x : Option Stream) (s : Stream) (is : x ≡ Some s) where
   pub start_first : first (start_rows x) ≡ first (start_rows (Some s))

@@ -1,8 +1,8 @@
 -- What the steps of a stream of the code are to the machine.
-use Rattle.std.proofs.Common.{◌≡◌, ℕ, ℤ, ◌+◌, ◌≤◌, ◌<◌, zero, suc, min, Bool, List, [], ◌∷◌, ◌++◌, length, map, replicate, take, drop, Option, Some, None, pos, refl, sym, ap, ◌∙◌, arith, append_assoc}
-use Rattle.std.proofs.lemmas.List.{length-map, map-append, length-replicate, drop-map}
+use Rattle.std.proofs.Common.{◌≡◌, ℕ, ◌+◌, ◌≤◌, zero, suc, min, Bool, List, ◌∷◌, ◌++◌, length, map, replicate, drop, Option, None, pos, refl, sym, ap, ◌∙◌, arith}
+use Rattle.std.proofs.lemmas.List.{length-map, map-append, drop-map}
 use Rattle.ca_base.specs.declared.ids.Gate.{Gate}
-use Rattle.wave_format.specs.Frame.{frame_of, frames_from}
+use Rattle.wave_format.specs.Frame.{frame_of}
 use Rattle.ca_machine.specs.Stage.{Stream, Frame}
 use Rattle.ca_machine.specs.Moves.{releases, picks, retires}
 

@@ -1,4 +1,5 @@
 -- The turns of a stream.
+use Rattle.call_wire.specs.Runs.{Runs}
 use Rattle.std.proofs.Common.{◌≡◌, ℕ, ◌+◌, ◌-◌, ◌^◌, ◌<◌, ◌≤◌, List, [], ◌∷◌, ◌++◌, length, drop, Option, Some, None, refl, sym, ap, subst, ◌∙◌, append_assoc, arith, inl, inr}
 use Rattle.std.proofs.lemmas.List.{append-nil, length-append, length-drop}
 use Rattle.std.specs.Io.KnownBytes.{Consumes, IsAtEnd}
@@ -20,7 +21,7 @@ use Rattle.audio_daemon.proofs.GrowthLemmas.{frames-then, answered-then, write_f
 pub record Taken {M : Type 0} (answers : M → Event → Reply → M → Type 0) (old new : Moment M) (held : List ℕ) (count : ℕ) : Type 0 where
   pub events : List Event
   pub replies : List Reply
-  pub answered : Answered answers old new events replies held
+  pub answered : Answered (Runs answers) old new events replies held
   pub count_is : length (frames events ++ held) ≡ count
 
 -- between two turns what is held is short
@@ -65,10 +66,10 @@ after-piece answers old left written desk held held' left' taken limit count h k
     }
 
 -- the source fails
-pub ends-read_fault : {M : Type 0} (answers : M → Event → Reply → M → Type 0) (old : Moment M) (left written : Option (List ℕ)) (desk : M) (held : List ℕ) (left' : Option (List ℕ)) (taken : ℕ) → SoFar answers old (moment left written desk) held taken → left' ≡ left → EndsShort answers old (moment left' written desk)
+pub ends-read_fault : {M : Type 0} (answers : M → Event → Reply → M → Type 0) (old : Moment M) (left written : Option (List ℕ)) (desk : M) (held : List ℕ) (left' : Option (List ℕ)) (taken : ℕ) → SoFar answers old (moment left written desk) held taken → left' ≡ left → EndsShort (Runs answers) old (moment left' written desk)
 ends-read_fault {M} answers old left written desk held left' taken h e =
-    let P : Option (List ℕ) → Type 0 = λ l. EndsShort answers old (moment l written desk) in
-    let here : EndsShort answers old (moment left written desk) = record {
+    let P : Option (List ℕ) → Type 0 = λ l. EndsShort (Runs answers) old (moment l written desk) in
+    let here : EndsShort (Runs answers) old (moment left written desk) = record {
       events = h.taken.events;
       replies = h.taken.replies;
       rest = held;
@@ -78,10 +79,10 @@ ends-read_fault {M} answers old left written desk held left' taken h e =
     subst P (sym e) here
 
 -- memory runs out before a piece is asked for
-pub ends-no_memory : {M : Type 0} (answers : M → Event → Reply → M → Type 0) (stays : M → M → Type 0) (old : Moment M) (left written : Option (List ℕ)) (desk : M) (held : List ℕ) (left' : Option (List ℕ)) (taken : ℕ) → SoFar answers old (moment left written desk) held taken → left' ≡ left → EndsNoMemory answers stays old (moment left' written desk)
+pub ends-no_memory : {M : Type 0} (answers : M → Event → Reply → M → Type 0) (stays : M → M → Type 0) (old : Moment M) (left written : Option (List ℕ)) (desk : M) (held : List ℕ) (left' : Option (List ℕ)) (taken : ℕ) → SoFar answers old (moment left written desk) held taken → left' ≡ left → EndsNoMemory (Runs answers) stays old (moment left' written desk)
 ends-no_memory {M} answers stays old left written desk held left' taken h e =
-    let P : Option (List ℕ) → Type 0 = λ l. EndsNoMemory answers stays old (moment l written desk) in
-    let here : EndsNoMemory answers stays old (moment left written desk) = record {
+    let P : Option (List ℕ) → Type 0 = λ l. EndsNoMemory (Runs answers) stays old (moment l written desk) in
+    let here : EndsNoMemory (Runs answers) stays old (moment left written desk) = record {
       events = h.taken.events;
       replies = h.taken.replies;
       more = held;
@@ -95,7 +96,7 @@ ends-no_memory {M} answers stays old left written desk held left' taken h e =
     subst P (sym e) here
 
 -- no more is taken
-pub ends-too_long : {M : Type 0} (answers : M → Event → Reply → M → Type 0) (old new : Moment M) (held : List ℕ) (taken : ℕ) → SoFar answers old new held taken → taken ≡ 2 ^ 40 → EndsTooLong answers old new
+pub ends-too_long : {M : Type 0} (answers : M → Event → Reply → M → Type 0) (old new : Moment M) (held : List ℕ) (taken : ℕ) → SoFar answers old new held taken → taken ≡ 2 ^ 40 → EndsTooLong (Runs answers) old new
 ends-too_long answers old new held taken h e = record {
   events = h.taken.events;
   replies = h.taken.replies;
@@ -124,7 +125,7 @@ after-turn answers old left written desk held written' desk' taken used h k = re
 }
 
 -- behind them stands no event
-pub ends-malformed : {M : Type 0} (answers : M → Event → Reply → M → Type 0) (old : Moment M) (left written : Option (List ℕ)) (desk : M) (held : List ℕ) (written' : Option (List ℕ)) (desk' : M) (taken used len : ℕ) → Taken answers old (moment left written desk) held taken → HeldIs answers held (holding held written desk) (holding [] written' desk') (is.Malformed used) → len ≡ length held → EndsMalformed answers old (moment left written' desk') (taken - (len - used))
+pub ends-malformed : {M : Type 0} (answers : M → Event → Reply → M → Type 0) (old : Moment M) (left written : Option (List ℕ)) (desk : M) (held : List ℕ) (written' : Option (List ℕ)) (desk' : M) (taken used len : ℕ) → Taken answers old (moment left written desk) held taken → HeldIs answers held (holding held written desk) (holding [] written' desk') (is.Malformed used) → len ≡ length held → EndsMalformed (Runs answers) old (moment left written' desk') (taken - (len - used))
 ends-malformed answers old left written desk held written' desk' taken used len h k l =
     let now = after-held answers old left written desk held written' desk' taken used h k.0 in
     let tail = drop used held in
@@ -156,12 +157,12 @@ empty-piece held held' [] h e = sym (h ∙ append-nil held)
 empty-piece held held' (x ∷ xs) h e = absurd (omega (arith, e))
 
 -- the input ends behind whole events
-pub ends-done : {M : Type 0} (answers : M → Event → Reply → M → Type 0) (old : Moment M) (left written : Option (List ℕ)) (desk : M) (held held' : List ℕ) (left' : Option (List ℕ)) (taken limit count : ℕ) → SoFar answers old (moment left written desk) held taken → ReadsPiece held held' left left' limit count → count ≡ 0 → length held' ≡ 0 → EndsDone answers old (moment left' written desk)
+pub ends-done : {M : Type 0} (answers : M → Event → Reply → M → Type 0) (old : Moment M) (left written : Option (List ℕ)) (desk : M) (held held' : List ℕ) (left' : Option (List ℕ)) (taken limit count : ℕ) → SoFar answers old (moment left written desk) held taken → ReadsPiece held held' left left' limit count → count ≡ 0 → length held' ≡ 0 → EndsDone (Runs answers) old (moment left' written desk)
 unfolding after-piece
 ends-done answers old left written desk held held' left' taken limit count h k z e =
     let now = after-piece answers old left written desk held held' left' taken limit count h k in
     let none : held' ≡ [] = empty held' e in
-    let P : List ℕ → Type 0 = λ t. Answered answers old (moment left' written desk) now.events now.replies t in
+    let P : List ℕ → Type 0 = λ t. Answered (Runs answers) old (moment left' written desk) now.events now.replies t in
     let Q : List ℕ → Type 0 = λ t. HadOnly old.left (frames now.events ++ t) in
     let R : List ℕ → Type 0 = λ t. HadOnly old.left t in
     let had = had-only old.left left (frames now.events ++ held) h.taken.answered.read (k.ends z) in
@@ -177,7 +178,7 @@ ends-done answers old left written desk held held' left' taken limit count h k z
     empty (x ∷ xs) l = absurd (omega (arith, l))
 
 -- the input ends inside an event
-pub ends-inside : {M : Type 0} (answers : M → Event → Reply → M → Type 0) (old : Moment M) (left written : Option (List ℕ)) (desk : M) (held held' : List ℕ) (left' : Option (List ℕ)) (taken limit count len : ℕ) → SoFar answers old (moment left written desk) held taken → ReadsPiece held held' left left' limit count → count ≡ 0 → 0 < len → len ≡ length held' → EndsMalformed answers old (moment left' written desk) (taken - len)
+pub ends-inside : {M : Type 0} (answers : M → Event → Reply → M → Type 0) (old : Moment M) (left written : Option (List ℕ)) (desk : M) (held held' : List ℕ) (left' : Option (List ℕ)) (taken limit count len : ℕ) → SoFar answers old (moment left written desk) held taken → ReadsPiece held held' left left' limit count → count ≡ 0 → 0 < len → len ≡ length held' → EndsMalformed (Runs answers) old (moment left' written desk) (taken - len)
 unfolding after-piece
 ends-inside answers old left written desk held held' left' taken limit count len h k z some l =
     let now = after-piece answers old left written desk held held' left' taken limit count h k in

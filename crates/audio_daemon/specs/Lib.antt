@@ -11,3 +11,4 @@ pub mod Pieces
 pub mod Stream
 pub mod Turns
 pub mod Gets
+pub mod Run

@@ -1,5 +1,5 @@
 -- A period of the one endpoint, in two halves: before its device is asked, and after.
-use Rattle.std.specs.Prelude.{◌≡◌, ◌==◌, List, map, Bool, Option, Some, None, if◌then◌else◌}
+use Rattle.std.specs.Prelude.{◌≡◌, ◌==◌, map, Bool, Option, Some, None, if◌then◌else◌}
 use Rattle.ca_machine.specs.Stage as stage
 use Rattle.ca_machine.specs.Moves.{finishes}
 use Rattle.ca_machine.specs.State.{State}

@@ -1,10 +1,10 @@
 -- What a period plays of a stream, and how it ends it.
-use Rattle.std.specs.Prelude.{ℕ, ◌==◌, List, [], take, min, length, Bool, true, false, if◌then◌else◌}
+use Rattle.std.specs.Prelude.{ℕ, List, take, min, Bool, true, false, if◌then◌else◌}
 use Rattle.std.specs.List.{flat_map}
 use Rattle.ca_base.specs.declared.ids.Reason.TheVariants.{Removal}
 use Rattle.wave_format.specs.Frame.{frame_bytes}
 use Rattle.ca_machine.specs.Stage as stage
-use Rattle.ca_machine.specs.Moves.{is_playing, is_there, retires, picks, closes, finishes}
+use Rattle.ca_machine.specs.Moves.{is_playing, is_there, retires, picks, closes}
 
 -- the frames that are due leave a stream that plays
 abbrev pub plays : stage.Endpoint → stage.Stream → stage.Stream

@@ -1,4 +1,5 @@
 -- What the parts of a stream came to (the whole file is this project's own).
+use Rattle.call_wire.specs.Runs.{Runs}
 use Rattle.std.specs.Prelude.{◌≡◌, ℕ, ◌<◌, ◌≤◌, ◌⊎◌, List, [], ◌∷◌, ◌++◌, length, drop, Option, Some, Result, Ok, Err}
 use Rattle.std.specs.Io.KnownBytes.{Appends}
 use Rattle.ca_base.specs.Faults.{Rose}
@@ -56,14 +57,14 @@ holding bytes written desk = moment (Some bytes) written desk
 
 -- why the answers to the events in some bytes stopped
 abbrev pub Stops : {M : Type 0} → (M → Event → Reply → M → Type 0) → (M → M → Type 0) → Moment M → Moment M → Stop → Type 0
-Stops answers stays old new stop.WriteFault = EndsWriteFault answers old new
-Stops answers stays old new stop.NoMemory = EndsNoMemory answers stays old new
+Stops answers stays old new stop.WriteFault = EndsWriteFault (Runs answers) old new
+Stops answers stays old new stop.NoMemory = EndsNoMemory (Runs answers) stays old new
 
 -- the event at the front of the bytes has this length and was answered
 pub record AnswersFront {M : Type 0} (answers : M → Event → Reply → M → Type 0) (bytes : List ℕ) (old new : Moment M) (used : ℕ) : Type 0 where
   pub event : Event
   pub reply : Reply
-  pub answered : Answered answers old new (event ∷ []) (reply ∷ []) (drop used bytes)
+  pub answered : Answered (Runs answers) old new (event ∷ []) (reply ∷ []) (drop used bytes)
   pub some_used : 0 < used
   pub within : used ≤ length bytes
 
@@ -77,7 +78,7 @@ FrontIs answers bytes old new front.Malformed = IsMalformed bytes × (new.writte
 pub record AnswersHeld {M : Type 0} (answers : M → Event → Reply → M → Type 0) (bytes : List ℕ) (old new : Moment M) (used : ℕ) : Type 0 where
   pub events : List Event
   pub replies : List Reply
-  pub answered : Answered answers old new events replies (drop used bytes)
+  pub answered : Answered (Runs answers) old new events replies (drop used bytes)
   pub within : used ≤ length bytes
 
 -- they were all whole events, and this stands behind them

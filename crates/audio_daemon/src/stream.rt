@@ -40,6 +40,7 @@ const MOST_HELD: usize = 4194308 + PIECE;
 /// How many bytes of a stream are taken.
 const LIMIT: u64 = 1 << 40;
 
+ghost use Rattle.call_wire.specs.Runs.{Runs};
 ghost use Rattle.audio_daemon.specs.Stream.{moment, Ends, SourceFaults, SinkFaults};
 
 /// Zeros to read into.
@@ -60,7 +61,7 @@ pub fn answer_stream<S: Source, K: Sink, M: Desk>(
     output: &mut K,
     desk: &mut M,
 ) -> StreamEnd
-    ensures ends { Ends M.answers M.stays (moment (S.left input.old) (K.written output.old) desk.old)
+    ensures ends { Ends (Runs M.answers) M.stays (moment (S.left input.old) (K.written output.old) desk.old)
         (moment (S.left input.new) (K.written output.new) desk.new) result }
     ensures source { SourceFaults result (S.faults input.old) (S.faults input.new) }
     ensures sink { SinkFaults result (K.faults output.old) (K.faults output.new) }

@@ -1,6 +1,6 @@
 //! A source and a sink over a reader and a writer of the system, as standard input and standard output.
 
-ghost use Rattle.std.specs.Prelude.{◌≡◌, ◌<◌, ◌≤◌, length, take, None, IfOk, IfSome, IfNone, OnOk, OnErr};
+ghost use Rattle.std.specs.Prelude.{◌≡◌, ◌<◌, ◌≤◌, [], length, take, None, IfOk, IfSome, IfNone, OnOk, OnErr};
 ghost use Rattle.std.specs.Io.KnownBytes.{Appends, Consumes, IsAtEnd, Keeps};
 ghost use Rattle.ca_base.specs.Faults.{Counts};
 
@@ -17,9 +17,9 @@ pub struct StdSource<R: Read + Drop> {
 }
 
 impl<R: Read + Drop> Model for StdSource<R> {
-    ghost use Rattle.ca_base.specs.Standard.{EdgeState};
+    ghost use Rattle.ca_base.specs.Standard.{ReaderState};
 
-    ghost Value = { EdgeState };
+    ghost Value = { ReaderState };
 
     ghost view = { λ s. record { bytes = R.remaining s.reader; faults = s.faults } };
 }
@@ -64,7 +64,8 @@ impl<R: Read + Drop> Source for StdSource<R> {
     }
 }
 
-/// A sink over a writer, with a buffer of 64 KiB: the writer is called where the buffer is full, and by `flush`.
+/// A sink over a writer, with a buffer of 64 KiB: the writer is called where a piece doesn't fit into the buffer, and by
+/// `flush`. A sink that is let go hands on what waits there, and tells nothing of a failure: flush it before.
 #[derive(Drop)]
 pub struct StdSink<W: Write + Drop> {
     out: BufWriter<W>,
@@ -72,12 +73,16 @@ pub struct StdSink<W: Write + Drop> {
 }
 
 impl<W: Write + Drop> Model for StdSink<W> {
-    ghost use Rattle.std.specs.Io.Buffered.{writer_contents};
-    ghost use Rattle.ca_base.specs.Standard.{EdgeState};
+    ghost use Rattle.std.specs.Io.Buffered.{writer_buffer, writer_contents};
+    ghost use Rattle.ca_base.specs.Standard.{WriterState};
 
-    ghost Value = { EdgeState };
+    ghost Value = { WriterState };
 
-    ghost view = { λ s. record { bytes = writer_contents W.contents s.out; faults = s.faults } };
+    ghost view = { λ s. record {
+      bytes = writer_contents W.contents s.out;
+      waiting = writer_buffer s.out;
+      faults = s.faults;
+    } };
 }
 
 impl<W: Write + Drop> StdSink<W> {
@@ -87,6 +92,7 @@ impl<W: Write + Drop> StdSink<W> {
     /// A sink over this writer. The memory of the buffer is taken now.
     pub fn new(alloc: Global, out: W) -> Result<StdSink<W>, NoMemory>
         ensures bytes { IfOk result (λ s. Keeps (W.contents out) s.bytes) }
+        ensures waiting { IfOk result (λ s. s.waiting ≡ []) }
         ensures faults { IfOk result (λ s. s.faults ≡ 0) }
     {
         match BufWriter::with_capacity(alloc, Self::ROOM, out) {
@@ -98,6 +104,7 @@ impl<W: Write + Drop> StdSink<W> {
     /// Hands all that was written to the writer, and flushes that.
     pub fn flush(&mut self) -> Result<(), Failed>
         ensures cause { Counts result self.old.faults self.new.faults }
+        ensures ok { OnOk result (self.new.waiting ≡ []) }
         ensures keeps { Keeps self.old.bytes self.new.bytes }
     {
         match self.out.flush() {

@@ -92,7 +92,7 @@ pub record Headline (entries : List Entry) (new : State) : Type 0 where
   pub closed_is_empty : (n : ℕ) (s : Stream) → stream_at n new.stage ≡ Some s → is_open s ≡ false → padding s ≡ 0
   -- each place that an endpoint has played was mixed by one whole Sound, which summed the frames whose fate is to be rendered there
   pub once : (number place : ℕ) → place < next_of number new.stage → sounds number place empty_stage (moves_of entries) ≡ rendered number place (moves_of entries) ∷ []
-  -- no place beyond was mixed, and no frame is rendered there
+  -- no whole Sound mixed a place beyond, and no frame is rendered there
   pub ahead : (number place : ℕ) → next_of number new.stage ≤ place → IsAhead number place (moves_of entries)
   -- the places of a stream's rendered frames rise
   pub rises : (n : ℕ) → RisesFrom 0 (places_of (fates n empty_stage (moves_of entries)))

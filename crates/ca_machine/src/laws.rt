@@ -52,7 +52,7 @@ pub fn one_sound()
     ensures { OneSound }
 {}
 
-/// From the next place of an endpoint on nothing was mixed, and nothing is rendered.
+/// From the next place of an endpoint on no whole period mixed a place, and no frame is rendered there.
 pub fn nothing_ahead()
     ensures { NothingAhead }
 {}

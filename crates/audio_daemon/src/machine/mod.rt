@@ -10,3 +10,5 @@ mod service;
 mod sounding;
 mod stream;
 mod words;
+
+pub use desk::Machine;

@@ -1,10 +1,10 @@
-use Rattle.std.proofs.Common.{◌≡◌, ℕ, ◌+◌, ◌-◌, ◌*◌, List, [], ◌∷◌, ◌++◌, replicate, vec_len, Option, refl, sym, ap, subst, ◌∙◌, arith}
+use Rattle.std.proofs.Common.{◌≡◌, ℕ, ◌+◌, ◌-◌, ◌*◌, List, [], ◌∷◌, ◌++◌, replicate, vec_len, refl, sym, ap, subst, ◌∙◌, arith}
 use Rattle.std.specs.List.{AllByRecursion}
 use Rattle.wave_format.specs.Frame.{IsFrame, frame_of}
 use Rattle.ca_machine.specs.Stage as stage
 use Rattle.ca_machine.specs.Tables.{bytes_due}
 use Rattle.audio_daemon.specs.declared.machine.stream.Stream.{Stream}
-use Rattle.audio_daemon.specs.Streams.{stream_of, streams_in}
+use Rattle.audio_daemon.specs.Streams.{stream_of}
 use Rattle.audio_daemon.specs.Playing.{due_bytes, due_frames}
 use Rattle.audio_daemon.proofs.Playing.{one_due, none_due, padded, due_within}
 use Rattle.audio_daemon.proofs.MixOne.{frames_of_words}

@@ -1,5 +1,4 @@
-use Rattle.std.proofs.Common.{◌≡◌, ℕ, ◌+◌, ◌-◌, ◌*◌, ◌<◌, ◌≤◌, length, drop, arith, ap, ◌∙◌}
-use Rattle.wave_format.specs.Frame.{frame_of, frame_from, AreBytes}
+use Rattle.std.proofs.Common.{ℕ, ◌<◌, length, drop, arith, ap, ◌∙◌}
 use Rattle.audio_daemon.proofs.Frames.{goes_in, holds, AreBytes-drop, one_less}
 use Rattle.audio_daemon.proofs.machine.words.push_frames.Goals as goal
 

@@ -1,4 +1,4 @@
-use Rattle.std.proofs.Common.{◌≡◌, ℕ, ◌+◌, ◌++◌, replicate}
+use Rattle.std.proofs.Common.{◌≡◌, ◌+◌, ◌++◌, replicate}
 use Rattle.std.specs.VecDeque.{deque_len, deque_capacity}
 use Rattle.audio_daemon.proofs.machine.words.push_silence.Given as goal
 

@@ -13,23 +13,23 @@ returns-in-Open-clause-step g c =
     let st = state_of m.service in
     let a = c.in-Open in
     asked g.D.Devices.faults g.D.Devices.told (seen_of m.devices m.service) _ _ c.args.self.now (event.Open a.conn a.pid a.name) c.args.ev.now c.self.view_is a.is
-        (gets_same st _ (open_plan st a.conn.0 a.pid a.name) _ [] _ _ refl (c.in_ok-reserve.ensures.list ∙ c.requires) c.answer_open-out.ensures (g.D.Devices.faults m.devices) (g.D.Devices.told m.devices))
-        refl refl refl
+    (gets_same st _ (open_plan st a.conn.0 a.pid a.name) _ [] _ _ refl (c.in_ok-reserve.ensures.list ∙ c.requires) c.answer_open-out.ensures (g.D.Devices.faults m.devices) (g.D.Devices.told m.devices))
+    refl refl refl
 
 pub returns-in-Call-clause-step : goal.returns-in-Call-clause-step
 returns-in-Call-clause-step g c =
     let m = c.self.inside in
     let a = c.in-Call in
     asked g.D.Devices.faults g.D.Devices.told (seen_of m.devices m.service) _ _ c.args.self.now (event.Call a.conn a.tag a.call) c.args.ev.now c.self.view_is a.is
-        (c.answer_call-out.ensures.table (g.D.Devices.faults m.devices) (g.D.Devices.told m.devices))
-        refl refl refl
+    (c.answer_call-out.ensures.table (g.D.Devices.faults m.devices) (g.D.Devices.told m.devices))
+    refl refl refl
 
 pub returns-in-Period-clause-step : goal.returns-in-Period-clause-step
 returns-in-Period-clause-step g c =
     let m = c.self.inside in
     let a = c.in-Period in
     asked g.D.Devices.faults g.D.Devices.told (seen_of m.devices m.service) _ _ c.args.self.now (event.Period a.endpoint) c.args.ev.now c.self.view_is a.is
-        c.answer_period-out.ensures refl refl refl
+    c.answer_period-out.ensures refl refl refl
 
 pub returns-in-Device-clause-step : goal.returns-in-Device-clause-step
 returns-in-Device-clause-step g c =
@@ -37,5 +37,5 @@ returns-in-Device-clause-step g c =
     let st = state_of m.service in
     let a = c.in-Device in
     asked g.D.Devices.faults g.D.Devices.told (seen_of m.devices m.service) _ _ c.args.self.now (event.Device a.event) c.args.ev.now c.self.view_is a.is
-        (gets_same st _ (device_plan st a.event) _ [] _ _ refl (c.in_ok-reserve.ensures.list ∙ c.requires) c.answer_device-out.ensures (g.D.Devices.faults m.devices) (g.D.Devices.told m.devices))
-        refl refl refl
+    (gets_same st _ (device_plan st a.event) _ [] _ _ refl (c.in_ok-reserve.ensures.list ∙ c.requires) c.answer_device-out.ensures (g.D.Devices.faults m.devices) (g.D.Devices.told m.devices))
+    refl refl refl

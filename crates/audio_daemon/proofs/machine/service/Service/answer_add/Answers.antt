@@ -1,10 +1,10 @@
-use Rattle.std.proofs.Common.{◌≡◌, ℕ, [], ◌∷◌, List, refl, sym, ap, ◌∙◌}
+use Rattle.std.proofs.Common.{ℕ, [], refl, sym, ap, ◌∙◌}
 use Rattle.wave_format.specs.declared.format.Format.{Format}
 use Rattle.wave_format.specs.Format.{spelled}
 use Rattle.ca_machine.specs.Tables.{add_plan}
 use Rattle.audio_daemon.specs.Service.{state_of}
 use Rattle.audio_daemon.specs.Actions.{added_state}
-use Rattle.audio_daemon.proofs.Gets.{gets_refused, gets_found, gets_short}
+use Rattle.audio_daemon.proofs.Gets.{gets_found, gets_short}
 use Rattle.audio_daemon.proofs.machine.service.Service.answer_add.Goals as goal
 
 pub returns-then-add : goal.returns-then-add

@@ -1,5 +1,4 @@
-use Rattle.std.proofs.Common.{ℕ, List, [], refl, sym, ap, ◌∙◌}
-use Rattle.ca_model.specs.declared.event.Call.{Call}
+use Rattle.std.proofs.Common.{ℕ, List, refl, sym, ap, ◌∙◌}
 use Rattle.ca_machine.specs.Step.{call_plan}
 use Rattle.ca_machine.specs.Tables.{initialize_plan, start_plan, get_buffer_plan, release_plan}
 use Rattle.audio_daemon.specs.Service.{state_of}

@@ -1,5 +1,4 @@
-use Rattle.std.proofs.Common.{ℕ, List, [], refl, sym, ap, ◌∙◌}
-use Rattle.ca_model.specs.declared.event.DeviceEvent.{DeviceEvent}
+use Rattle.std.proofs.Common.{ℕ, List, refl, sym, ap, ◌∙◌}
 use Rattle.ca_machine.specs.Step.{device_plan}
 use Rattle.ca_machine.specs.Tables.{add_plan}
 use Rattle.audio_daemon.specs.Service.{state_of}

@@ -1,5 +1,5 @@
-use Rattle.std.proofs.Common.{◌≡◌, ℕ, [], ◌∷◌, ◌++◌, List, refl, sym, ap, ◌∙◌}
-use Rattle.ca_machine.specs.Tables.{initialize_plan, initialized}
+use Rattle.std.proofs.Common.{[], refl, sym, ◌∙◌}
+use Rattle.ca_machine.specs.Tables.{initialize_plan}
 use Rattle.ca_machine.specs.State.{client_of}
 use Rattle.audio_daemon.specs.Service.{state_of}
 use Rattle.audio_daemon.proofs.Granted.{client_is_there, initialize_granted, no_session}

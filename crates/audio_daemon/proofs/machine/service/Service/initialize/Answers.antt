@@ -1,5 +1,3 @@
-use Rattle.std.proofs.Common.{◌∙◌, ap, sym}
-use Rattle.wave_format.specs.Format.{spelled}
 use Rattle.audio_daemon.proofs.Actions.{has_initialized}
 use Rattle.audio_daemon.proofs.machine.service.Service.initialize.Goals as goal
 

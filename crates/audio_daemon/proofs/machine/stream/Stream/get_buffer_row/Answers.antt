@@ -1,5 +1,4 @@
-use Rattle.std.proofs.Common.{◌≡◌, ℕ, false, sym, ◌∙◌}
-use Rattle.std.specs.Prelude.{is_some}
+use Rattle.std.proofs.Common.{sym, ◌∙◌}
 use Rattle.audio_daemon.specs.Streams.{stream_of}
 use Rattle.audio_daemon.proofs.Rows.{too_large, has_room}
 use Rattle.audio_daemon.proofs.machine.stream.Stream.get_buffer_row.Goals as goal

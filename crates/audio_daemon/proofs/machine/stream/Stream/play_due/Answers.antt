@@ -1,7 +1,7 @@
-use Rattle.std.proofs.Common.{◌≡◌, ℕ, ◌++◌, min, map, take, refl, sym, ap, ◌∙◌, arith}
+use Rattle.std.proofs.Common.{◌≡◌, ℕ, ◌++◌, min, take, refl, sym, ap, ◌∙◌, arith}
 use Rattle.std.specs.List.{flat_map}
 use Rattle.std.proofs.lemmas.List.{length-map}
-use Rattle.wave_format.specs.Frame.{frame_bytes, frame_of}
+use Rattle.wave_format.specs.Frame.{frame_bytes}
 use Rattle.ca_machine.specs.Stage as stage
 use Rattle.audio_daemon.specs.Streams.{stream_of}
 use Rattle.audio_daemon.proofs.Playing.{has_played, has_due}

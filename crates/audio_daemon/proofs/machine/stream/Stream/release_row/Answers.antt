@@ -1,4 +1,4 @@
-use Rattle.std.proofs.Common.{◌≡◌, ℕ, sym, ◌∙◌, arith}
+use Rattle.std.proofs.Common.{sym, ◌∙◌, arith}
 use Rattle.audio_daemon.specs.Streams.{stream_of}
 use Rattle.audio_daemon.proofs.Rows.{wrong_data, worn_out, may_release}
 use Rattle.audio_daemon.proofs.machine.stream.Stream.release_row.Goals as goal
