@@ -1,11 +1,12 @@
 -- A worked period: an endpoint of two frames a period, and a stream with three frames of one channel.
-use Rattle.std.proofs.Common.{◌≡◌, ℕ, List, [], ◌∷◌, true, false, None, refl, pos, negsuc}
+use Rattle.std.proofs.Common.{◌≡◌, ℕ, ℤ, List, [], ◌∷◌, true, false, None, refl, pos, negsuc}
 use Rattle.ca_base.specs.declared.ids.Gate.TheVariants as gate
 use Rattle.ca_base.specs.declared.codes.TheConstants.Hr as hr
 use Rattle.ca_model.specs.declared.event.Event.{Event}
 use Rattle.ca_model.specs.declared.event.Event.TheVariants as event
 use Rattle.ca_model.specs.declared.event.Call.TheVariants as call
 use Rattle.ca_machine.specs.Stage.{Stream, Endpoint}
+use Rattle.ca_machine.specs.Mix.{mixed_sample}
 use Rattle.ca_machine.specs.State.{State}
 use Rattle.ca_machine.specs.Plan.{took, failed}
 use Rattle.ca_machine.specs.Step.{step}
@@ -69,3 +70,20 @@ handed_to_other = refl
 
 handed_refused : handed_in 1 ready.stage (release 2 2 []) hr.E_NOTIMPL ≡ []
 handed_refused = refl
+
+-- streams with one frame that is due: two loud ones are cut to the nearest sample, and a third counts against their exact sum
+abbrev loud : ℕ → ℤ → Stream
+loud n sample = record voice { client = n; picked = 1; data' = record { pending = (sample ∷ []) ∷ []; released = 1; lease = None } }
+
+two_high : mixed_sample speaker (loud 1 (pos 30000) ∷ loud 2 (pos 30000) ∷ []) 0 0 ≡ pos 32767
+two_high = refl
+
+two_low : mixed_sample speaker (loud 1 (negsuc 29999) ∷ loud 2 (negsuc 29999) ∷ []) 0 0 ≡ negsuc 32767
+two_low = refl
+
+three_turn_back : mixed_sample speaker (loud 1 (negsuc 29999) ∷ loud 2 (pos 30000) ∷ loud 3 (pos 30000) ∷ []) 0 0 ≡ pos 30000
+three_turn_back = refl
+
+-- what is not picked adds nothing
+unpicked_is_silent : mixed_sample speaker (voice ∷ []) 0 0 ≡ pos 0
+unpicked_is_silent = refl
