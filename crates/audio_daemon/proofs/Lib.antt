@@ -10,6 +10,7 @@ pub mod Sounding
 pub mod StreamLemmas
 pub mod FrontLemmas
 pub mod GrowthLemmas
+pub mod PieceLemmas
 pub mod StreamTurns
 pub mod Gets
 pub mod Granted

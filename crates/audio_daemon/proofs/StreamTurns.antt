@@ -10,8 +10,7 @@ use Rattle.ca_model.specs.Spelling.IsShort.{no_length, no_body}
 use Rattle.audio_daemon.specs.declared.stream.event.Stop.{Stop}
 use Rattle.audio_daemon.specs.declared.stream.event.Stop.TheVariants as stop
 use Rattle.audio_daemon.specs.declared.stream.held.Held.TheVariants as is
-use Rattle.audio_daemon.specs.Stream.{Moment, moment, Answered, EndsDone, EndsMalformed, EndsShort, EndsTooLong, EndsNoMemory, HadOnly}
-use Rattle.audio_daemon.specs.Stream.OmitsLast.{whole}
+use Rattle.audio_daemon.specs.Stream.{Moment, moment, Answered, EndsDone, EndsMalformed, EndsShort, EndsTooLong, HadOnly}
 use Rattle.audio_daemon.specs.Pieces.{ReadsPiece}
 use Rattle.audio_daemon.specs.Turns.{holding, Stops, AnswersHeld, HeldIs}
 use Rattle.audio_daemon.proofs.StreamLemmas.{Appends-none, Consumes-none, Consumes-then}
@@ -75,23 +74,6 @@ ends-read_fault {M} answers old left written desk held left' taken h e =
       rest = held;
       answered = h.taken.answered;
       short = h.short;
-    } in
-    subst P (sym e) here
-
--- memory runs out before a piece is asked for
-pub ends-no_memory : {M : Type 0} (answers : M → Event → Reply → M → Type 0) (stays : M → M → Type 0) (old : Moment M) (left written : Option (List ℕ)) (desk : M) (held : List ℕ) (left' : Option (List ℕ)) (taken : ℕ) → SoFar answers old (moment left written desk) held taken → left' ≡ left → EndsNoMemory (Runs answers) stays old (moment left' written desk)
-ends-no_memory {M} answers stays old left written desk held left' taken h e =
-    let P : Option (List ℕ) → Type 0 = λ l. EndsNoMemory (Runs answers) stays old (moment l written desk) in
-    let here : EndsNoMemory (Runs answers) stays old (moment left written desk) = record {
-      events = h.taken.events;
-      replies = h.taken.replies;
-      more = held;
-      after = desk;
-      read = h.taken.answered.read;
-      each = h.taken.answered.each;
-      runs = h.taken.answered.runs;
-      stayed = inl refl;
-      wrote = whole h.taken.answered.wrote;
     } in
     subst P (sym e) here
 

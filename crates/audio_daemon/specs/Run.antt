@@ -51,6 +51,16 @@ pub record SameDevices {D : Type 0} (faults : D → ℕ) (told : D → Option (L
   pub tells : told new ≡ told old
   pub counts : faults new ≡ faults old
 
+-- a status as the program's exit status
+abbrev pub exit_status : Status → ℕ
+exit_status status.Done = 0
+exit_status status.Usage = 2
+exit_status (status.Malformed place) = 3
+exit_status status.ReadFault = 4
+exit_status status.WriteFault = 5
+exit_status status.NoMemory = 6
+exit_status status.TooLong = 7
+
 -- a stream's end as a status
 abbrev pub status_of : StreamEnd → Status
 status_of ends.Done = status.Done

@@ -1,6 +1,9 @@
 //! The audio service: a file of events in, replies and the frames of the devices out.
 #![tactic(auto)]
 
+ghost use Rattle.std.specs.Prelude.{◌≡◌};
+ghost use Rattle.audio_daemon.specs.Run.{exit_status};
+
 mod machine;
 mod run;
 mod stream;
@@ -11,6 +14,7 @@ use ca_base::{NoMemory, StdSink, StdSource, Words};
 use device_io::FileDevices;
 pub use run::{Status, run};
 use std::env::{self, Env};
+use std::io::ErrorKind;
 use std::process::ExitCode;
 
 /// What the words of the command line are.
@@ -19,11 +23,13 @@ const USAGE: &str = "usage: audio_daemon replay FOLDER
 Reads events from standard input, answers each in order, and writes the replies to standard output.
 What the endpoints play is added to FOLDER/endpoint-N.pcm: frames of signed 16-bit samples, little-endian.";
 
-/// The words of the command line, without the program's name. Words that can't be read count as none.
+/// The words of the command line, without the program's name. Words that aren't UTF-8 count as none.
 fn read_words<R: Env + AllocGlobal>(rt: &R) -> Result<Words, NoMemory> {
     let mut words = Words::new(rt.alloc());
-    let Ok(args) = env::args(rt) else {
-        return Ok(words);
+    let args = match env::args(rt) {
+        Ok(args) => args,
+        Err(error) if error.kind() == ErrorKind::OutOfMemory => return Err(NoMemory),
+        Err(_) => return Ok(words),
     };
     for word in args.skip(1) {
         words.push(word.as_str())?;
@@ -32,7 +38,9 @@ fn read_words<R: Env + AllocGlobal>(rt: &R) -> Result<Words, NoMemory> {
 }
 
 /// The exit status of a status, and the line that tells it on standard error.
-fn report<R: Eprint>(rt: &R, status: Status) -> u8 {
+fn report<R: Eprint>(rt: &R, status: Status) -> u8
+    ensures { result ≡ exit_status status }
+{
     match status {
         Status::Done => 0,
         Status::Usage => {

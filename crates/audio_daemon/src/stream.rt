@@ -1,10 +1,8 @@
 //! A stream of events: each is answered in order, and its reply is written after it.
 
-ghost use Rattle.std.specs.Prelude.{◌≡◌, vec_len, IfOk};
-
 use crate::stream::event::{Slate, Stop};
 use crate::stream::held::{Held, answer_held};
-use crate::stream::piece::{PieceFault, drop_front, read_piece};
+use crate::stream::piece::{PIECE, PieceFault, drop_front, read_piece};
 use ca_base::{NoMemory, Sink, Source};
 use call_wire::Desk;
 use std::alloc::Global;
@@ -31,9 +29,6 @@ pub enum StreamEnd {
     TooLong,
 }
 
-/// How many bytes a read asks for.
-const PIECE: usize = 65536;
-
 /// How many bytes are held at most: a frame and a piece.
 const MOST_HELD: usize = 4194308 + PIECE;
 
@@ -42,16 +37,6 @@ const LIMIT: u64 = 1 << 40;
 
 ghost use Rattle.call_wire.specs.Runs.{Runs};
 ghost use Rattle.audio_daemon.specs.Stream.{moment, Ends, SourceFaults, SinkFaults};
-
-/// Zeros to read into.
-fn blank(alloc: Global, len: usize) -> Result<Vec<u8>, NoMemory>
-    ensures { IfOk result (λ piece. vec_len piece ≡ len) }
-{
-    match vec![in alloc; 0; len] {
-        Ok(piece) => Ok(piece),
-        Err(_) => Err(NoMemory),
-    }
-}
 
 /// Reads events from the source to its end, asks the desk for each in order, and writes each reply after its event.
 /// It holds at most a frame and a piece.
@@ -66,14 +51,11 @@ pub fn answer_stream<S: Source, K: Sink, M: Desk>(
     ensures source { SourceFaults result (S.faults input.old) (S.faults input.new) }
     ensures sink { SinkFaults result (K.faults output.old) (K.faults output.new) }
 {
-    let Ok(mut piece) = blank(alloc, PIECE) else {
-        return StreamEnd::NoMemory;
-    };
     let mut held = Vec::new(alloc);
     let mut slate = Slate::new(alloc);
     let mut taken = 0;
     'stream: while taken < LIMIT {
-        match read_piece(input, piece.as_mut_slice(), LIMIT - taken, &mut held) {
+        match read_piece(input, LIMIT - taken, &mut held) {
             Ok(0) => {
                 if held.is_empty() {
                     return StreamEnd::Done;

@@ -2,7 +2,6 @@
 
 ghost use Rattle.std.specs.Prelude.{◌≡◌, ◌≢◌, ℕ, ◌+◌, ◌*◌, ◌<◌, ◌≤◌, Some, None, [], ◌∷◌, length, true, false, IfSome, is_none};
 ghost use Rattle.std.specs.Option.{option_map};
-ghost use Rattle.std.specs.VecDeque.{deque_len};
 ghost use Rattle.ca_machine.specs.Plan.{granted};
 ghost use Rattle.ca_machine.specs.Moves.{stream_at};
 ghost use Rattle.ca_machine.specs.Moves.Move.{leased, started};
@@ -131,7 +130,7 @@ impl Service {
     /// Leases so many frames of the client's stream.
     pub fn lease(&mut self, client: ClientNo, frames: u32)
         requires holds { Holds self.old.endpoint self.old.client self.old.stream client.0 }
-        requires room { IfSome self.old.stream (λ s. deque_len s.words + frames ≤ s.room) }
+        requires room { IfSome self.old.stream (λ s. length s.words.items + frames ≤ s.room) }
         ensures { state_of self.new ≡ (granted [] (leased client.0 frames ∷ []) [] (state_of self.old)).after }
     {
         if let Some(stream) = &mut self.stream {

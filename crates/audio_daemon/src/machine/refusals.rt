@@ -2,7 +2,6 @@
 
 ghost use Rattle.std.specs.Prelude.{◌≡◌, ◌≢◌, ℕ, Some, None, MatchResult, IfOk, IfNone, IfSome, length, ◌+◌, ◌*◌, ◌<◌, ◌≤◌, ◌^◌, false};
 ghost use Rattle.std.specs.Option.{option_map};
-ghost use Rattle.std.specs.VecDeque.{deque_len};
 ghost use Rattle.ca_model.specs.Rows.{first};
 ghost use Rattle.ca_machine.specs.Tables.{opening_rows, start_rows, get_buffer_rows, release_rows, open_plan, add_plan, activate_plan, initialize_plan, start_plan, get_buffer_plan, release_plan, period_plan, silent};
 ghost use Rattle.std.specs.Prelude.{is_some, true};
@@ -56,7 +55,7 @@ impl Stream {
 
     fn get_buffer_row(&self, frames: u32) -> Option<Hr>
         ensures row { (client endpoint channels : ℕ) → result ≡ first (get_buffer_rows (Some (stream_of client endpoint channels self.now)) frames) }
-        ensures room { IfNone result (deque_len self.now.words + frames ≤ self.now.room) }
+        ensures room { IfNone result (length self.now.words.items + frames ≤ self.now.room) }
     {
         if self.lease.is_some() {
             return Some(Hr::OUT_OF_ORDER);
@@ -238,7 +237,7 @@ impl Service {
     pub fn get_buffer_refusal(&self, conn: ConnNo, client: ClientNo, frames: u32) -> Option<Hr>
         ensures row { result ≡ first (get_buffer_plan (state_of self.now) conn.0 client.0 frames).rows }
         ensures holds { IfNone result (Holds self.now.endpoint self.now.client self.now.stream client.0) }
-        ensures room { IfNone result (IfSome self.now.stream (λ s. deque_len s.words + frames ≤ s.room)) }
+        ensures room { IfNone result (IfSome self.now.stream (λ s. length s.words.items + frames ≤ s.room)) }
     {
         match self.open_stream(conn, client) {
             Err(code) => Some(code),

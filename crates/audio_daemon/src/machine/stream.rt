@@ -1,12 +1,10 @@
 //! A render stream.
 
 ghost use Rattle.std.specs.Prelude.{true, false, ◌≡◌, ◌⊎◌, ℕ, ◌+◌, ◌*◌, ◌^◌, ◌<◌, ◌≤◌, ◌++◌, [], take, replicate, pos, length, unwrap_or, vec_len, vec_capacity, IfOk, Some};
-ghost use Rattle.std.specs.VecDeque.{deque_len, deque_capacity};
 
-use super::words::{pop_frames, push_frames, push_silence};
+use super::words::{Ring, pop_frames, push_frames, push_silence};
 use ca_base::{Gate, NoMemory, Reason, SessionNo};
 use std::alloc::Global;
-use std::collections::VecDeque;
 use wave_format::frames_of_bytes_are_written;
 
 /// A render stream of an endpoint. Its frames wait as words, one each, in a ring whose room was taken at the start.
@@ -22,9 +20,9 @@ pub struct Stream {
     /// How many frames were ever released.
     pub released: u64,
     /// The frames released and not yet played.
-    pub words: VecDeque<u64>,
-    ghost fits: { deque_len words + unwrap_or lease 0 ≤ room },
-    ghost reserved: { room ≤ deque_capacity words },
+    pub words: Ring,
+    ghost fits: { length words.items + unwrap_or lease 0 ≤ room },
+    ghost reserved: { words.capacity ≡ room },
     ghost counted: { released ≤ 2 ^ 62 },
 }
 
@@ -42,7 +40,7 @@ impl Stream {
     pub fn open(alloc: Global, room: u32, session: SessionNo) -> Result<Stream, NoMemory>
         ensures { IfOk result (λ s. (client endpoint channels : ℕ) → stream_of client endpoint channels s ≡ fresh client endpoint channels room session.0) }
     {
-        match VecDeque::with_capacity(alloc, room as usize) {
+        match Ring::with_capacity(alloc, room as usize) {
             Ok(words) => Ok(Stream {
                 room,
                 session,
@@ -58,7 +56,7 @@ impl Stream {
 
     /// How many frames wait.
     pub fn padding(&self) -> u32
-        ensures { result ≡ deque_len self.now.words }
+        ensures { result ≡ length self.now.words.items }
     {
         let _room = self.room;
         self.words.len() as u32
@@ -76,7 +74,7 @@ impl Stream {
     /// Whether the room that is free is below so many frames.
     pub fn lacks_room(&self, frames: u32) -> bool
         ensures test { (client endpoint channels : ℕ) → result ≡ nat_lt ((stream_of client endpoint channels self.now).room - padding (stream_of client endpoint channels self.now)) frames }
-        ensures room { result ≡ false → deque_len self.now.words + frames ≤ self.now.room }
+        ensures room { result ≡ false → length self.now.words.items + frames ≤ self.now.room }
     {
         let _fits = self.room;
         self.room - self.padding() < frames
@@ -84,7 +82,7 @@ impl Stream {
 
     /// Leases so many frames.
     pub fn lease(&mut self, frames: u32)
-        requires { deque_len self.old.words + frames ≤ self.old.room }
+        requires { length self.old.words.items + frames ≤ self.old.room }
         ensures { (client endpoint channels : ℕ) → stream_of client endpoint channels self.new ≡ leases frames (stream_of client endpoint channels self.old) }
     {
         self.lease = Some(frames);
@@ -125,7 +123,7 @@ impl Stream {
 
     /// Plays so many frames: they leave the ring, and their bytes are added to `out`, `block` bytes a frame.
     pub fn play(&mut self, frames: u32, block: usize, out: &mut Vec<u8>)
-        requires there { frames ≤ deque_len self.old.words }
+        requires there { frames ≤ length self.old.words.items }
         requires room { vec_len out.old + frames * block ≤ vec_capacity out.old }
         requires block { IsBlock block }
         ensures bytes { (client endpoint channels : ℕ) → block ≡ channels * 2 →

@@ -1,6 +1,6 @@
 //! One event: asked, answered, and its reply written.
 
-ghost use Rattle.std.specs.Prelude.{◌≡◌, IfErr, OnOk};
+ghost use Rattle.std.specs.Prelude.{◌≡◌, [], IfErr, OnOk};
 
 use crate::stream::writing::write_whole;
 use ca_base::{Bytes, Hr, Sink};
@@ -26,7 +26,10 @@ pub struct Slate {
 
 impl Slate {
     /// Takes no memory.
-    pub fn new(alloc: Global) -> Slate {
+    pub fn new(alloc: Global) -> Slate
+        ensures payload { result.reply.payload.list ≡ [] }
+        ensures frame { result.frame.list ≡ [] }
+    {
         Slate {
             reply: Reply {
                 kind: 0,

@@ -1,6 +1,6 @@
 //! The bytes held: pieces come in at the end, and what was answered leaves at the front.
 
-ghost use Rattle.std.specs.Prelude.{◌≡◌, ◌<◌, ◌≤◌, length, drop, vec_len, IfOk, OnErr};
+ghost use Rattle.std.specs.Prelude.{◌≡◌, ◌<◌, ◌≤◌, drop, vec_len, IfOk, OnErr};
 
 use ca_base::Source;
 
@@ -15,36 +15,36 @@ pub enum PieceFault {
 
 ghost use Rattle.audio_daemon.specs.Pieces.{ReadsPiece, PieceFaults};
 
-/// Reads a piece of at most `limit` bytes to the end of what is held, by way of `piece`, and answers how many bytes
-/// came. 0 is the end.
+/// How many bytes a read asks for.
+pub const PIECE: usize = 65536;
+
+/// Reads a piece of at most `limit` bytes to the end of what is held, and answers how many bytes came. 0 is the end.
 pub fn read_piece<S: Source>(
     input: &mut S,
-    piece: &mut [u8],
     limit: u64,
     held: &mut Vec<u8>,
 ) -> Result<usize, PieceFault>
-    requires room { 0 < length piece.old }
     requires more { 0 < limit }
     ensures ok { IfOk result (λ count. ReadsPiece held.old.items held.new.items (S.left input.old) (S.left input.new) limit count) }
-    ensures within { IfOk result (λ count. count ≤ length piece.old) }
+    ensures within { IfOk result (λ count. count ≤ 65536) }
     ensures held { OnErr result (held.new.items ≡ held.old.items) }
     ensures left { OnErr result (S.left input.new ≡ S.left input.old) }
     ensures source { PieceFaults result (S.faults input.old) (S.faults input.new) }
 {
-    if held.reserve(piece.len()).is_err() {
+    let before = held.len();
+    let room = limit.min(PIECE as u64) as usize;
+    if held.resize(before + room, 0).is_err() {
         return Err(PieceFault::NoMemory);
     }
-    let room = limit.min(piece.len() as u64) as usize;
-    let front = &mut piece[..room];
-    match input.read(front) {
+    match input.read(&mut held[before..]) {
         Ok(count) => {
-            let (came, _) = front.split_at(count);
-            match held.extend_from_slice(came) {
-                Ok(()) => Ok(count),
-                Err(_) => Err(PieceFault::NoMemory),
-            }
+            held.truncate(before + count);
+            Ok(count)
         }
-        Err(_) => Err(PieceFault::ReadFault),
+        Err(_) => {
+            held.truncate(before);
+            Err(PieceFault::ReadFault)
+        }
     }
 }
 

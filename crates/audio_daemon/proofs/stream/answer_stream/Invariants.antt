@@ -1,4 +1,4 @@
-use Rattle.std.proofs.Common.{◌≡◌, ◌-◌, ◌^◌, ◌≤◌, vec_len}
+use Rattle.std.proofs.Common.{◌≡◌, ◌-◌, ◌^◌, ◌≤◌}
 use Rattle.audio_daemon.specs.Stream.{moment}
 use Rattle.audio_daemon.proofs.StreamTurns.{SoFar}
 use Rattle.audio_daemon.proofs.stream.answer_stream.Given as goal
@@ -9,7 +9,6 @@ invariant-stream g l =
     × (g.S.Source.faults l.input ≡ g.S.Source.faults l.fn.input)
     × (g.K.Sink.faults l.output ≡ g.K.Sink.faults l.fn.output)
     × (l.taken ≤ 2 ^ 40)
-    × (vec_len l.piece ≡ 65536)
 
 abbrev pub decreases-stream : goal.decreases-stream
 decreases-stream g l = 2 ^ 40 - l.taken

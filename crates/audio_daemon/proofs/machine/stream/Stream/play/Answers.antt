@@ -6,4 +6,4 @@ pub returns-clause-stream : goal.returns-clause-stream
 returns-clause-stream c = λ client endpoint channels.
     let s = c.args.self.now in
     has_played client endpoint channels s.room s.session.0 s.running s.gate s.released s.lease s.words.items c.args.frames c.pop_frames.new.words.items
-    (omega (arith, c.args.self.now.words.ok)) c.pop_frames.ensures.words
+    (omega arith) c.pop_frames.ensures.words

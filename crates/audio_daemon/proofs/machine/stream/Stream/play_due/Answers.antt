@@ -9,7 +9,7 @@ use Rattle.audio_daemon.proofs.machine.stream.Stream.play_due.Goals as goal
 
 -- how many frames are due
 due : (c : goal.After-play) (client channels : ℕ) (e : stage.Endpoint) → stage.period_frames e ≡ c.args.period → c.min-due.result ≡ min (stage.period_frames e) (stage.padding (stream_of client e.number channels c.args.self.now))
-due c client channels e is = rw length-map (omega (arith, c.args.self.now.words.ok, is))
+due c client channels e is = rw length-map (omega (arith, is))
 
 pub returns-then-is_open-clause-bytes : goal.returns-then-is_open-clause-bytes
 returns-then-is_open-clause-bytes c = λ client channels e is block.
