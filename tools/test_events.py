@@ -1,16 +1,15 @@
 """Tests of `wire.py` and `events`: python3 -m unittest discover -s tools"""
 import contextlib
-import importlib.util
 import io
 import os
 import subprocess
 import sys
 import tempfile
 import unittest
-from importlib.machinery import SourceFileLoader
 from pathlib import Path
 
 import wire
+from load_tool import load_tool
 
 TOOLS = Path(__file__).resolve().parent
 PLACE = TOOLS.parent / "crates/audio_daemon"
@@ -19,15 +18,7 @@ EXTENSIBLE = ("feff0200" "80bb0000" "00ee0200" "04001000" "1600"
               "1000" "03000000" "0100000000001000800000aa00389b71")
 GUID = "00112233445566778899aabbccddeeff"
 
-
-def load_events():
-    loader = SourceFileLoader("events", str(TOOLS / "events"))
-    module = importlib.util.module_from_spec(importlib.util.spec_from_loader("events", loader))
-    loader.exec_module(module)
-    return module
-
-
-events = load_events()
+events = load_tool("events")
 
 
 def spelled(script):

@@ -1,0 +1,51 @@
+"""Tests of what `bench` measures: its inputs are whole events, as many as it says, and its floors copy them."""
+import tempfile
+import unittest
+from pathlib import Path
+
+import wire
+from load_tool import load_tool
+
+bench = load_tool("bench")
+
+
+class Bench(unittest.TestCase):
+    def setUp(self):
+        folder = tempfile.TemporaryDirectory()
+        self.addCleanup(folder.cleanup)
+        self.folder = Path(folder.name)
+
+    def events(self, source):
+        data = source.path.read_bytes()
+        self.assertEqual(len(data), source.size)
+        events = [wire.read_event(body) for body in wire.bodies(data)]
+        self.assertEqual(len(events), source.events)
+        return events
+
+    def test_small_events(self):
+        source = bench.small_events(self.folder / "events", 100)
+        names = [event.name for event in self.events(source)]
+        self.assertEqual(names, ["Add", "Open", "Activate", "Initialize", "Start"]
+                         + (["GetBuffer", "ReleaseBuffer"] * 10 + ["Period"]) * 4)
+        self.assertEqual(source.played, 4 * 1920)
+
+    def test_bulk_data(self):
+        for rate, channels, frames in (48000, 2, 480), (96000, 4, 960):
+            with self.subTest(rate):
+                size = frames * channels * 2
+                source = bench.bulk_data(self.folder / "events", 3 * size + 1, rate, channels)
+                events = self.events(source)[5:]
+                self.assertEqual([event.name for event in events], ["GetBuffer", "ReleaseBuffer", "Period"] * 3)
+                self.assertEqual([len(event.values["bytes"]) for event in events[1::3]], [size] * 3)
+                self.assertEqual(source.played, 3 * size)
+
+    def test_the_floors_copy_the_input(self):
+        source = bench.small_events(self.folder / "events", 100)
+        for name, run in bench.runners_of("none", source).items():
+            if name != "program":
+                self.assertGreater(run(self.folder / name), 0)
+                self.assertEqual((self.folder / name / "copy").read_bytes(), source.path.read_bytes())
+
+
+if __name__ == "__main__":
+    unittest.main()
