@@ -30,13 +30,13 @@ class Bench(unittest.TestCase):
         self.assertEqual(source.played, 4 * 1920)
 
     def test_bulk_data(self):
-        for rate, channels, frames in (48000, 2, 480), (96000, 4, 960):
+        for rate, channels, frames in (48000, 2, 4800), (96000, 4, 9600):
             with self.subTest(rate):
                 size = frames * channels * 2
                 source = bench.bulk_data(self.folder / "events", 3 * size + 1, rate, channels)
                 events = self.events(source)[5:]
-                self.assertEqual([event.name for event in events], ["GetBuffer", "ReleaseBuffer", "Period"] * 3)
-                self.assertEqual([len(event.values["bytes"]) for event in events[1::3]], [size] * 3)
+                self.assertEqual([event.name for event in events], (["GetBuffer", "ReleaseBuffer"] + ["Period"] * 10) * 3)
+                self.assertEqual([len(event.values["bytes"]) for event in events[1::12]], [size] * 3)
                 self.assertEqual(source.played, 3 * size)
 
     def test_the_floors_copy_the_input(self):
