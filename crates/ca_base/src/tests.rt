@@ -1,6 +1,9 @@
 //! Each object once with ample memory, and readers and writers that fail in mid-stream.
 
-use crate::{Bytes, Failed, MemSink, MemSource, Sink, Source, StdSink, StdSource, Words};
+use crate::{
+    Bytes, Failed, MemSink, MemSource, Sink, Source, StdSink, StdSource, Text, Words, read_once,
+    write_once,
+};
 use std::io::{self, Error, ErrorKind, Read, Write};
 use std::test::Fail;
 
@@ -29,6 +32,24 @@ fn a_sink_in_memory(rt: HostRuntime) -> Result<(), Fail> {
     assert_eq!(rt; sink.written(), [1, 2, 3].as_slice());
     assert_eq!(rt; sink.faults(), 2);
     Ok(())
+}
+
+#[test]
+fn bytes_and_their_room(rt: HostRuntime) -> Result<(), Fail> {
+    let mut bytes = Bytes::with_room(rt.alloc(), 2)?;
+    bytes.append(&[1, 2])?;
+    bytes.reserve(2)?;
+    bytes.append(&[3, 4])?;
+    assert_eq!(rt; bytes.as_slice(), [1, 2, 3, 4].as_slice());
+    bytes.clear();
+    assert_eq!(rt; bytes.len(), 0);
+    Ok(())
+}
+
+#[test]
+fn a_text_has_its_bytes(rt: HostRuntime) {
+    assert_eq!(rt; Text::new(b"Speakers").as_bytes(), b"Speakers".as_slice());
+    assert_eq!(rt; Text::new(b"").as_bytes(), b"".as_slice());
 }
 
 #[test]
@@ -76,6 +97,18 @@ impl Write for Faulty {
     fn flush(&mut self) -> io::Result<()> {
         Ok(())
     }
+}
+
+#[test]
+fn one_read_and_one_write(rt: HostRuntime) {
+    let mut reader = Faulty { calls: 0 };
+    let mut buf = [0u8; 2];
+    assert_eq!(rt; read_once(&mut reader, &mut buf), Some(1));
+    assert_eq!(rt; buf, [7, 0]);
+    assert_eq!(rt; read_once(&mut reader, &mut buf), None);
+    let mut writer = Faulty { calls: 0 };
+    assert_eq!(rt; write_once(&mut writer, &[1, 2]), Some(2));
+    assert_eq!(rt; write_once(&mut writer, &[3]), None);
 }
 
 #[test]
