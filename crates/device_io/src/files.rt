@@ -32,17 +32,18 @@ pub struct FileDevices<R: Files + Drop> {
 }
 
 impl<R: Files + Drop> Model for FileDevices<R> {
-    ghost use Rattle.std.specs.Prelude.{ℕ};
+    ghost use Rattle.std.specs.Prelude.{string_bytes};
+    ghost use Rattle.device_io.specs.Files.{FilesState};
 
-    ghost Value = { ℕ };
+    ghost Value = { FilesState };
 
-    ghost view = { λ d. d.faults };
+    ghost view = { λ d. record { folder = string_bytes d.folder; faults = d.faults } };
 }
 
 impl<R: Files + Drop> FileDevices<R> {
     /// Devices over the files of this folder, of which none is opened yet.
     pub fn new(rt: R, alloc: Global, folder: &str) -> Result<FileDevices<R>, NoMemory>
-        ensures { IfOk result (λ d. d ≡ 0) }
+        ensures { IfOk result (λ d. d ≡ record { folder = folder.now; faults = 0 }) }
     {
         let Ok(folder) = String::from_str(alloc, folder) else {
             return Err(NoMemory);
@@ -59,7 +60,7 @@ impl<R: Files + Drop> FileDevices<R> {
 
     /// How many calls have failed. The count stands still at 2^64 - 1.
     pub fn faults(&self) -> u64
-        ensures { result ≡ self.now }
+        ensures { result ≡ self.now.faults }
     {
         self.faults
     }
@@ -99,7 +100,7 @@ impl<R: Files + Drop> FileDevices<R> {
 }
 
 impl<R: Files + Drop> Devices for FileDevices<R> {
-    ghost faults = { λ d. d };
+    ghost faults = { λ d. d.faults };
 
     ghost told = { λ _. None };
 
@@ -108,7 +109,8 @@ impl<R: Files + Drop> Devices for FileDevices<R> {
         requires { 0 < length piece.now }
         ensures some { IfOk result (λ n. 0 < n) }
         ensures count { IfOk result (λ n. n ≤ length piece.now) }
-        ensures cause { Counts result self.old self.new }
+        ensures cause { Counts result self.old.faults self.new.faults }
+        ensures folder { self.new.folder ≡ self.old.folder }
     {
         match self.append(e, piece) {
             Some(count) => Ok(count),
@@ -123,7 +125,8 @@ impl<R: Files + Drop> Devices for FileDevices<R> {
     fn read(&mut self, e: EndpointNo, buf: &mut [u8]) -> Result<usize, Failed>
         requires { 0 < length buf.old }
         ensures count { IfOk result (λ n. n ≤ length buf.new) }
-        ensures cause { Counts result self.old self.new }
+        ensures cause { Counts result self.old.faults self.new.faults }
+        ensures folder { self.new.folder ≡ self.old.folder }
     {
         match self.read_on(e, buf) {
             Some(count) => Ok(count),
