@@ -2,12 +2,12 @@
 use Rattle.std.proofs.Common.{◌≡◌, ℕ, List, [], ◌∷◌, Bool, true, false, Option, Some, None, refl, sym, ap, ◌∙◌, eq-eqb, cond}
 use Rattle.std.specs.Prelude.{is_some, ◌==◌, ◌&&◌}
 use Rattle.ca_base.specs.declared.ids.Gate.TheVariants as gate
-use Rattle.ca_machine.specs.Stage as stage
-use Rattle.ca_machine.specs.Moves.{of_open, leases, releases, runs, stream_at}
-use Rattle.ca_machine.specs.Moves.Move.{leased, started}
-use Rattle.ca_machine.specs.Plan.{granted}
-use Rattle.ca_machine.specs.State.{State, Client as TheClient, client_of}
-use Rattle.ca_machine.specs.Tables.{released_of, frames_released, initialized, shared_buffer}
+use Rattle.first_machine.specs.Stage as stage
+use Rattle.first_machine.specs.Moves.{of_open, leases, releases, runs, stream_at}
+use Rattle.first_machine.specs.Moves.Move.{leased, started}
+use Rattle.first_machine.specs.Plan.{granted}
+use Rattle.first_machine.specs.State.{State, Client as TheClient, client_of}
+use Rattle.first_machine.specs.Tables.{released_of, frames_released, initialized, shared_buffer}
 use Rattle.wave_format.specs.Format.{spelled}
 use Rattle.audio_daemon.specs.declared.machine.service.Connection.{Connection}
 use Rattle.audio_daemon.specs.declared.machine.service.Endpoint.{Endpoint}

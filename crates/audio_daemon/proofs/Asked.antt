@@ -1,9 +1,9 @@
 -- An event that was answered by its table is an entry of the machine's run.
 use Rattle.std.proofs.Common.{◌≡◌, ℕ, List, Option, refl, sym, subst}
-use Rattle.device_io.specs.Held.{Held}
+use Rattle.device_io.specs.DeviceLog.{DeviceLog}
 use Rattle.ca_model.specs.declared.event.Event.{Event}
 use Rattle.ca_model.specs.declared.reply.Reply.{Reply}
-use Rattle.ca_machine.specs.Step.{step, plan, event_kind, event_connection, event_tag}
+use Rattle.first_machine.specs.Step.{step, plan, event_kind, event_connection, event_tag}
 use Rattle.audio_daemon.specs.declared.machine.service.Service.{Service}
 use Rattle.audio_daemon.specs.Service.{state_of}
 use Rattle.audio_daemon.specs.Gets.{Gets}
@@ -13,7 +13,7 @@ use Rattle.audio_daemon.specs.Machine.{Seen, Answers}
 abbrev pub seen_of : {D : Type 0} → D → Service → Seen D
 seen_of devices service = record { devices = devices; state = state_of service }
 
-module _ {D : Type 0} (faults : D → ℕ) (told : D → Option (List Held)) (old new : Seen D) (reply : Reply) where
+module _ {D : Type 0} (faults : D → ℕ) (told : D → Option (List DeviceLog)) (old new : Seen D) (reply : Reply) where
   answered : (event : Event) → Gets old.state (plan old.state event) reply.result reply.payload.list new.state (faults old.devices) (told old.devices) (faults new.devices) (told new.devices)
       → reply.kind ≡ event_kind event → reply.conn ≡ event_connection event → reply.tag ≡ event_tag event → Answers faults told old event reply new
   answered event got kind connection tag = record {

@@ -3,14 +3,14 @@ use Rattle.std.proofs.Common.{◌≡◌, ℕ, List, [], ◌∷◌, Bool, true, f
 use Rattle.std.specs.Option.{option_map}
 use Rattle.ca_base.specs.declared.codes.Hr.{Hr}
 use Rattle.ca_base.specs.declared.codes.TheConstants.Hr as hr
-use Rattle.device_io.specs.Held.{Held, add_all}
-use Rattle.ca_model.specs.Rows.{Row, first}
-use Rattle.ca_machine.specs.State.{State}
-use Rattle.ca_machine.specs.Plan.{Plan, Outcome, built, plain, with_memory}
-use Rattle.ca_machine.specs.Plan.Answer.{found, short}
+use Rattle.device_io.specs.DeviceLog.{DeviceLog, add_all}
+use Rattle.ca_base.specs.Rows.{Row, first}
+use Rattle.first_machine.specs.State.{State}
+use Rattle.first_machine.specs.Plan.{Plan, Outcome, built, plain, with_memory}
+use Rattle.first_machine.specs.Plan.Answer.{found, short}
 use Rattle.audio_daemon.specs.Gets.{Has}
 
-same_told : (told : Option (List Held)) → told ≡ option_map (add_all []) told
+same_told : (told : Option (List DeviceLog)) → told ≡ option_map (add_all []) told
 same_told None = refl
 same_told (Some held) = refl
 
@@ -28,7 +28,7 @@ gets_refused st plan code result payload new row is empty same = λ faults told.
 }
 
 -- no row does, and the call asks nothing
-pub gets_plain : (st : State) (rows : List Row) (outcome : Outcome) (result : Hr) (payload : List ℕ) (new : State) → first rows ≡ None → outcome.output ≡ []
+pub gets_plain : (st : State) (rows : List (Row Hr)) (outcome : Outcome) (result : Hr) (payload : List ℕ) (new : State) → first rows ≡ None → outcome.output ≡ []
     → result ≡ outcome.result → payload ≡ outcome.payload → new ≡ outcome.after
     → Has st (plain rows outcome) result payload new
 gets_plain st rows outcome result payload new none quiet is pays after = λ faults told. record {
@@ -42,7 +42,7 @@ gets_plain st rows outcome result payload new none quiet is pays after = λ faul
 }
 
 -- no row does, and memory was found
-pub gets_found : (st : State) (rows : List Row) (outcome : Outcome) (result : Hr) (payload : List ℕ) (new : State) → first rows ≡ None → outcome.output ≡ []
+pub gets_found : (st : State) (rows : List (Row Hr)) (outcome : Outcome) (result : Hr) (payload : List ℕ) (new : State) → first rows ≡ None → outcome.output ≡ []
     → result ≡ outcome.result → payload ≡ outcome.payload → new ≡ outcome.after
     → Has st (with_memory st rows outcome) result payload new
 gets_found st rows outcome result payload new none quiet is pays after = λ faults told. record {
@@ -56,7 +56,7 @@ gets_found st rows outcome result payload new none quiet is pays after = λ faul
 }
 
 -- no row does, and memory ran out
-pub gets_short : (st : State) (rows : List Row) (outcome : Outcome) (result : Hr) (payload : List ℕ) (new : State) → first rows ≡ None
+pub gets_short : (st : State) (rows : List (Row Hr)) (outcome : Outcome) (result : Hr) (payload : List ℕ) (new : State) → first rows ≡ None
     → result ≡ hr.E_OUTOFMEMORY → payload ≡ [] → new ≡ st
     → Has st (with_memory st rows outcome) result payload new
 gets_short st rows outcome result payload new none is pays after = λ faults told. record {
@@ -70,11 +70,11 @@ gets_short st rows outcome result payload new none is pays after = λ faults tol
 }
 
 -- the first row fails where none holds
-row_by_test : (test : Bool) (code : Hr) (rows : List Row) → first ((test, code) ∷ rows) ≡ None → (test ≡ false) × (first rows ≡ None)
+row_by_test : (test : Bool) (code : Hr) (rows : List (Row Hr)) → first ((test, code) ∷ rows) ≡ None → (test ≡ false) × (first rows ≡ None)
 row_by_test true code rows h = absurd cc
 row_by_test false code rows h = (refl, h)
 
-pub row_fails : (row : Row) (rows : List Row) → first (row ∷ rows) ≡ None → (row.0 ≡ false) × (first rows ≡ None)
+pub row_fails : (row : Row Hr) (rows : List (Row Hr)) → first (row ∷ rows) ≡ None → (row.0 ≡ false) × (first rows ≡ None)
 row_fails row rows h = row_by_test row.0 row.1 rows h
 
 -- the same of an equal table, and of an equal payload

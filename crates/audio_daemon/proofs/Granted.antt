@@ -3,12 +3,13 @@ use Rattle.std.proofs.Common.{◌≡◌, ℕ, ◌+◌, List, [], ◌∷◌, leng
 use Rattle.std.specs.Prelude.{is_none, not, ◌==◌, ◌||◌}
 use Rattle.std.specs.Int.{w64, to_le_bytes}
 use Rattle.ca_base.specs.declared.codes.TheConstants.Hr as hr
-use Rattle.ca_model.specs.Rows.{first, Row}
-use Rattle.ca_machine.specs.Stage as stage
-use Rattle.ca_machine.specs.Moves.{stream_at}
-use Rattle.ca_machine.specs.Plan.{Outcome}
-use Rattle.ca_machine.specs.State.{State, Client as TheClient, client_of}
-use Rattle.ca_machine.specs.Tables.{initialized, released_of, initialize_plan, release_plan, connection_row, client_row, release_rows, opening_rows, if_stream, is_shut_down, has_later_flag, is_extensible}
+use Rattle.ca_base.specs.Rows.{first, Row}
+use Rattle.ca_base.specs.declared.codes.Hr.{Hr}
+use Rattle.first_machine.specs.Stage as stage
+use Rattle.first_machine.specs.Moves.{stream_at}
+use Rattle.first_machine.specs.Plan.{Outcome}
+use Rattle.first_machine.specs.State.{State, Client as TheClient, client_of}
+use Rattle.first_machine.specs.Tables.{initialized, released_of, initialize_plan, release_plan, connection_row, client_row, release_rows, opening_rows, if_stream, is_shut_down, has_later_flag, is_extensible}
 use Rattle.audio_daemon.specs.declared.machine.service.Endpoint.{Endpoint}
 use Rattle.audio_daemon.specs.declared.machine.service.Client.{Client}
 use Rattle.audio_daemon.specs.declared.machine.stream.Stream.{Stream}
@@ -39,7 +40,7 @@ no_session (Some e) None s h = refl
 no_session (Some e) (Some c) None h = refl
 no_session (Some e) (Some c) (Some s) h = absurd cc
 
-third_fails : (a b c : Row) (more : List Row) → first (a ∷ b ∷ c ∷ more) ≡ None → c.0 ≡ false
+third_fails : (a b c : Row Hr) (more : List (Row Hr)) → first (a ∷ b ∷ c ∷ more) ≡ None → c.0 ≡ false
 third_fails a b c more h = (row_fails c more (row_fails b (c ∷ more) (row_fails a (b ∷ c ∷ more) h).1).1).0
 
 -- the client is there where no row of Initialize holds

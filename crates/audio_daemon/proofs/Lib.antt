@@ -7,11 +7,6 @@ pub mod Actions
 pub mod Playing
 pub mod PeriodStates
 pub mod Sounding
-pub mod StreamLemmas
-pub mod FrontLemmas
-pub mod GrowthLemmas
-pub mod PieceLemmas
-pub mod StreamTurns
 pub mod Gets
 pub mod Granted
 pub mod Asked

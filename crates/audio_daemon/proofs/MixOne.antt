@@ -9,8 +9,8 @@ use Rattle.std.specs.List.{flat_map, range_with_len, AllByRecursion}
 use Rattle.std.specs.Int.{w16}
 use Rattle.std.specs.Int.RustNames.{FitsSigned}
 use Rattle.wave_format.specs.Frame.{IsFrame, frame_of, frame_bytes}
-use Rattle.ca_machine.specs.Stage.{Frame, Stream, Endpoint, period_frames}
-use Rattle.ca_machine.specs.Mix.{unit_gain, scaled, clamp16, sample_of, contributions, sum_of, sum_at, mixed_sample, mixed_frame, mixed, sound_bytes}
+use Rattle.first_machine.specs.Stage.{Frame, Stream, Endpoint, period_frames}
+use Rattle.first_machine.specs.Mix.{unit_gain, scaled, clamp16, sample_of, contributions, sum_of, sum_at, mixed_sample, mixed_frame, mixed, sound_bytes}
 
 -- ---- lists
 

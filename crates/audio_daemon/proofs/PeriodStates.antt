@@ -1,10 +1,10 @@
 -- The states of a period of the one endpoint.
 use Rattle.std.proofs.Common.{◌≡◌, ℕ, List, [], ◌∷◌, Bool, true, false, Option, Some, None, refl, sym, subst, eq-eqb}
 use Rattle.std.specs.Prelude.{is_none, ◌==◌, ◌&&◌}
-use Rattle.ca_machine.specs.Moves.{is_playing, is_there, after_moves, sub_steps}
+use Rattle.first_machine.specs.Moves.{is_playing, is_there, after_moves, sub_steps}
 use Rattle.audio_daemon.specs.Playing.{plays, ends}
-use Rattle.ca_machine.specs.Stage as stage
-use Rattle.ca_machine.specs.Tables.{bytes_due}
+use Rattle.first_machine.specs.Stage as stage
+use Rattle.first_machine.specs.Tables.{bytes_due}
 use Rattle.audio_daemon.specs.declared.machine.service.Endpoint.{Endpoint}
 use Rattle.audio_daemon.specs.declared.machine.service.Client.{Client}
 use Rattle.audio_daemon.specs.declared.machine.stream.Stream.{Stream}

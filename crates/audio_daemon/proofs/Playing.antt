@@ -4,10 +4,10 @@ use Rattle.std.specs.Prelude.{◌==◌, ◌&&◌}
 use Rattle.std.specs.List.{flat_map, AllByRecursion}
 use Rattle.ca_base.specs.declared.ids.Reason.TheVariants.{Removal}
 use Rattle.wave_format.specs.Frame.{frame_bytes, IsFrame}
-use Rattle.ca_machine.specs.Stage as stage
-use Rattle.ca_machine.specs.Moves.{is_playing, retires, picks, closes}
-use Rattle.ca_machine.specs.Mix.{sound_bytes}
-use Rattle.ca_machine.specs.Tables.{bytes_due}
+use Rattle.first_machine.specs.Stage as stage
+use Rattle.first_machine.specs.Moves.{is_playing, retires, picks, closes}
+use Rattle.first_machine.specs.Mix.{sound_bytes}
+use Rattle.first_machine.specs.Tables.{bytes_due}
 use Rattle.audio_daemon.specs.Playing.{plays, due_frames, due_bytes, ends}
 use Rattle.audio_daemon.proofs.MixOne.{sound_nothing, sound_other, sound_one}
 

@@ -3,9 +3,9 @@ use Rattle.std.proofs.Common.{◌≡◌, ℕ, ◌+◌, ◌-◌, ◌<◌, ◌≤�
 use Rattle.std.specs.Prelude.{is_some}
 use Rattle.std.proofs.lemmas.Bool.{le-ltb, lt-ltb}
 use Rattle.ca_base.specs.declared.codes.TheConstants.Hr as hr
-use Rattle.ca_model.specs.Rows.{first}
-use Rattle.ca_machine.specs.Stage.{Stream, padding}
-use Rattle.ca_machine.specs.Tables.{start_rows, get_buffer_rows, release_rows, has_wrong_data, worn}
+use Rattle.ca_base.specs.Rows.{first}
+use Rattle.first_machine.specs.Stage.{Stream, padding}
+use Rattle.first_machine.specs.Tables.{start_rows, get_buffer_rows, release_rows, has_wrong_data, worn}
 
 module _ (x : Option Stream) (s : Stream) (is : x ≡ Some s) where
   pub start_first : first (start_rows x) ≡ first (start_rows (Some s))

@@ -1,34 +1,35 @@
--- The end of the stream is the status of the run.
-use Rattle.std.proofs.Common.{◌≡◌, ℕ, List, [], ◌∷◌, length, Bool, true, false, Option, Some, refl, sym, ap, subst, ◌∙◌, arith}
+-- The end of the event loop is the status of the run.
+use Rattle.std.proofs.Common.{◌≡◌, ℕ, List, [], ◌∷◌, length, Bool, true, false, Option, Some, refl, sym, ap, subst, ◌∙◌}
+use Rattle.std.proofs.Common.{arith}
 use Rattle.std.specs.Prelude.{slice_get, codes, ◌&&◌}
 use Rattle.std.specs.Str.{bytes_eq}
-use Rattle.device_io.specs.Held.{Held}
-use Rattle.audio_daemon.specs.declared.stream.StreamEnd.{StreamEnd}
-use Rattle.audio_daemon.specs.declared.stream.StreamEnd.TheVariants as ends
+use Rattle.device_io.specs.DeviceLog.{DeviceLog}
+use Rattle.event_loop.specs.Ends.{moment, Moment, Ends}
+use Rattle.event_loop.specs.declared.ends.LoopEnd.{LoopEnd}
+use Rattle.event_loop.specs.declared.ends.LoopEnd.TheVariants as ends
 use Rattle.audio_daemon.specs.declared.run.Status.{Status}
-use Rattle.audio_daemon.specs.Stream.{moment, Ends}
-use Rattle.audio_daemon.specs.Run.{RunEnds, Replayed, SameDevices, is_replay, is_folder, status_of}
+use Rattle.audio_daemon.specs.Run.{RunEnds, Replayed, is_replay, is_folder, status_of}
 
-module _ {D : Type 0} (faults : D → ℕ) (told : D → Option (List Held)) (words : List (List ℕ)) where
-  by_end : (old new : D) (left written left' written' : Option (List ℕ)) (end : StreamEnd) → is_replay words ≡ true
-      → Ends (Replayed faults told) (SameDevices faults told) (moment left written old) (moment left' written' new) end
-      → RunEnds faults told words (moment left written old) (moment left' written' new) (status_of end)
-  by_end old new left written left' written' ends.Done are h = record { words-are = are; ends = h }
-  by_end old new left written left' written' (ends.Malformed place) are h = record { words-are = are; ends = h }
-  by_end old new left written left' written' ends.ReadFault are h = record { words-are = are; ends = h }
-  by_end old new left written left' written' ends.WriteFault are h = record { words-are = are; ends = h }
-  by_end old new left written left' written' ends.NoMemory are h = record { words-are = are; ends = h }
-  by_end old new left written left' written' ends.TooLong are h = record { words-are = are; ends = h }
+module _ {D : Type 0} (faults : D → ℕ) (told : D → Option (List DeviceLog)) (words : List (List ℕ)) where
+  by_end : (old new : Moment D) (end : LoopEnd) → is_replay words ≡ true → Ends (Replayed faults told) old new end
+      → RunEnds faults told words old new (status_of end)
+  by_end old new ends.Done are h = record { words_are = are; ends = h }
+  by_end old new (ends.Malformed place) are h = record { words_are = are; ends = h }
+  by_end old new ends.ReadFault are h = record { words_are = are; ends = h }
+  by_end old new ends.WriteFault are h = record { words_are = are; ends = h }
+  by_end old new ends.NoMemory are h = record { words_are = are; ends = h }
+  by_end old new ends.TooLong are h = record { words_are = are; ends = h }
 
-  pub has_ended : (devices result old new : D) (left written left' written' : Option (List ℕ)) (end : StreamEnd) (status : Status)
-      → old ≡ devices → result ≡ new → status ≡ status_of end → is_replay words ≡ true
-      → Ends (Replayed faults told) (SameDevices faults told) (moment left written old) (moment left' written' new) end
+  pub has_ended : (devices result old new : D) (left written left' written' : Option (List ℕ)) (end : LoopEnd)
+      (status : Status) → old ≡ devices → result ≡ new → status ≡ status_of end → is_replay words ≡ true
+      → Ends (Replayed faults told) (moment left written old) (moment left' written' new) end
       → RunEnds faults told words (moment left written devices) (moment left' written' result) status
   has_ended devices result old new left written left' written' end status from to is are h =
-      subst (λ (s : Status). RunEnds faults told words (moment left written devices) (moment left' written' result) s) (sym is)
-      (subst (λ (d : D). RunEnds faults told words (moment left written d) (moment left' written' result) (status_of end)) from
+      let after = moment left' written' result in
+      subst (λ (s : Status). RunEnds faults told words (moment left written devices) after s) (sym is)
+      (subst (λ (d : D). RunEnds faults told words (moment left written d) after (status_of end)) from
       (subst (λ (d : D). RunEnds faults told words (moment left written old) (moment left' written' d) (status_of end)) (sym to)
-      (by_end old new left written left' written' end are h)))
+      (by_end (moment left written old) (moment left' written' new) end are h)))
 
 -- words that aren't two are other words
 pub other_count : (words : List (List ℕ)) (n : ℕ) → n ≡ length words → (n ≡ 2 → ⊥) → false ≡ is_replay words

@@ -3,10 +3,10 @@ use Rattle.std.proofs.Common.{◌≡◌, ℕ, ◌<◌, ◌≤◌, true, false, L
 use Rattle.std.proofs.lemmas.List.{nil_from_length}
 use Rattle.std.specs.Option.{option_map}
 use Rattle.ca_base.specs.Faults.{Rose}
-use Rattle.device_io.specs.Held.{Held, add_written, add_all}
-use Rattle.ca_machine.specs.Plan.{Answer, IsWriting, is_whole, pieces}
-use Rattle.ca_machine.specs.Plan.Answer.{found, short, took, failed, gave, loaded, stored, keeper_short}
-use Rattle.ca_machine.specs.Step.{FaultsAlong}
+use Rattle.device_io.specs.DeviceLog.{DeviceLog, add_written, add_all}
+use Rattle.first_machine.specs.Plan.{Answer, IsWriting, is_whole, pieces}
+use Rattle.first_machine.specs.Plan.Answer.{found, short, took, failed, gave, loaded, stored, keeper_short}
+use Rattle.first_machine.specs.Step.{FaultsAlong}
 use Rattle.audio_daemon.specs.Sounding.{Sounded}
 
 -- a device took pieces of the bytes, one after another, and this is left
@@ -22,7 +22,7 @@ IsTaken bytes (stored ∷ given) rest = ⊥
 IsTaken bytes (keeper_short ∷ given) rest = ⊥
 
 -- some answers led here, each of which took a piece
-pub record SoFar (e : ℕ) (bytes rest : List ℕ) (told told' : Option (List Held)) : Type 0 where
+pub record SoFar (e : ℕ) (bytes rest : List ℕ) (told told' : Option (List DeviceLog)) : Type 0 where
   pub given : List Answer
   pub taken : IsTaken bytes given rest
   pub tells : told' ≡ option_map (add_all (pieces e bytes given)) told
@@ -54,17 +54,17 @@ pieces_more e bytes (loaded kept ∷ given) rest k h = absurd h
 pieces_more e bytes (stored ∷ given) rest k h = absurd h
 pieces_more e bytes (keeper_short ∷ given) rest k h = absurd h
 
-add_all-more : (ws : List (ℕ × List ℕ)) (e : ℕ) (piece : List ℕ) (held : List Held)
+add_all-more : (ws : List (ℕ × List ℕ)) (e : ℕ) (piece : List ℕ) (held : List DeviceLog)
     → add_all (ws ++ (e, piece) ∷ []) held ≡ add_written e piece (add_all ws held)
 add_all-more [] e piece held = refl
 add_all-more (w ∷ ws) e piece held = add_all-more ws e piece (add_written w.0 w.1 held)
 
-tells_more : (ws : List (ℕ × List ℕ)) (e : ℕ) (piece : List ℕ) (told : Option (List Held))
+tells_more : (ws : List (ℕ × List ℕ)) (e : ℕ) (piece : List ℕ) (told : Option (List DeviceLog))
     → option_map (add_written e piece) (option_map (add_all ws) told) ≡ option_map (add_all (ws ++ (e, piece) ∷ [])) told
 tells_more ws e piece None = refl
-tells_more ws e piece (Some held) = ap (λ (hs : List Held). Some hs) (sym (add_all-more ws e piece held))
+tells_more ws e piece (Some held) = ap (λ (hs : List DeviceLog). Some hs) (sym (add_all-more ws e piece held))
 
-pub one_more : (e : ℕ) (bytes rest after : List ℕ) (k : ℕ) (told told' told'' : Option (List Held)) → SoFar e bytes rest told told'
+pub one_more : (e : ℕ) (bytes rest after : List ℕ) (k : ℕ) (told told' told'' : Option (List DeviceLog)) → SoFar e bytes rest told told'
     → 0 < k → k ≤ length rest → after ≡ drop k rest → told'' ≡ option_map (add_written e (take k rest)) told' → SoFar e bytes after told told''
 one_more e bytes rest after k told told' told'' so_far some within after-is told-is = record {
   given = so_far.given ++ took k ∷ [];
@@ -98,7 +98,7 @@ all_taken bytes (loaded kept ∷ given) faults h = absurd h
 all_taken bytes (stored ∷ given) faults h = absurd h
 all_taken bytes (keeper_short ∷ given) faults h = absurd h
 
-pub took_all : (e : ℕ) (bytes rest : List ℕ) (faults faults' : ℕ) (told told' : Option (List Held)) → SoFar e bytes rest told told'
+pub took_all : (e : ℕ) (bytes rest : List ℕ) (faults faults' : ℕ) (told told' : Option (List DeviceLog)) → SoFar e bytes rest told told'
     → length rest ≡ 0 → faults' ≡ faults → Sounded e bytes true faults told faults' told'
 took_all e bytes rest faults faults' told told' so_far none same =
     let end = all_taken bytes so_far.given faults (subst (IsTaken bytes so_far.given) (nil_from_length rest none) so_far.taken) in
@@ -143,7 +143,7 @@ failed_after e bytes (loaded kept ∷ given) rest faults faults' h some rose = a
 failed_after e bytes (stored ∷ given) rest faults faults' h some rose = absurd h
 failed_after e bytes (keeper_short ∷ given) rest faults faults' h some rose = absurd h
 
-pub gave_up : (e : ℕ) (bytes rest : List ℕ) (faults mid faults' : ℕ) (told told' told'' : Option (List Held)) → SoFar e bytes rest told told'
+pub gave_up : (e : ℕ) (bytes rest : List ℕ) (faults mid faults' : ℕ) (told told' told'' : Option (List DeviceLog)) → SoFar e bytes rest told told'
     → 0 < length rest → mid ≡ faults → Rose mid faults' → told'' ≡ told' → Sounded e bytes false faults told faults' told''
 gave_up e bytes rest faults mid faults' told told' told'' so_far some same rose kept =
     let end = failed_after e bytes so_far.given rest faults faults' so_far.taken some (subst (λ (n : ℕ). Rose n faults') same rose) in

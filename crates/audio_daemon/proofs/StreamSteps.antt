@@ -3,8 +3,8 @@ use Rattle.std.proofs.Common.{◌≡◌, ℕ, ◌+◌, ◌≤◌, zero, suc, min
 use Rattle.std.proofs.lemmas.List.{length-map, map-append, drop-map}
 use Rattle.ca_base.specs.declared.ids.Gate.{Gate}
 use Rattle.wave_format.specs.Frame.{frame_of}
-use Rattle.ca_machine.specs.Stage.{Stream, Frame}
-use Rattle.ca_machine.specs.Moves.{releases, picks, retires}
+use Rattle.first_machine.specs.Stage.{Stream, Frame}
+use Rattle.first_machine.specs.Moves.{releases, picks, retires}
 
 -- a stream of its parts
 abbrev pub made : (client endpoint channels room session : ℕ) (running : Bool) (gate : Gate) (released : ℕ) (lease : Option ℕ) (pending : List Frame) → Stream

@@ -1,10 +1,10 @@
 -- The states that granted calls lead to.
 use Rattle.std.specs.Prelude.{ℕ, ◌+◌, List, [], ◌∷◌, ◌++◌}
 use Rattle.wave_format.specs.declared.format.Format.{Format}
-use Rattle.ca_machine.specs.Plan.{granted}
-use Rattle.ca_machine.specs.Moves.{active}
-use Rattle.ca_machine.specs.Moves.Move.{added}
-use Rattle.ca_machine.specs.State.{State}
+use Rattle.first_machine.specs.Plan.{granted}
+use Rattle.first_machine.specs.Moves.{active}
+use Rattle.first_machine.specs.Moves.Move.{added}
+use Rattle.first_machine.specs.State.{State}
 
 abbrev pub opened_state : State → ℕ → ℕ → List ℕ → State
 opened_state st conn process name =

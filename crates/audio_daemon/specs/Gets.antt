@@ -2,14 +2,14 @@
 use Rattle.std.specs.Prelude.{◌≡◌, ℕ, List, Option}
 use Rattle.std.specs.Option.{option_map}
 use Rattle.ca_base.specs.declared.codes.Hr.{Hr}
-use Rattle.device_io.specs.Held.{Held, add_all}
-use Rattle.ca_machine.specs.State.{State}
-use Rattle.ca_machine.specs.Plan.{Plan, Answer, Answers, asked_of, outcome_of}
-use Rattle.ca_machine.specs.Step.{FaultsAlong}
+use Rattle.device_io.specs.DeviceLog.{DeviceLog, add_all}
+use Rattle.first_machine.specs.State.{State}
+use Rattle.first_machine.specs.Plan.{Plan, Answer, Answers, asked_of, outcome_of}
+use Rattle.first_machine.specs.Step.{FaultsAlong}
 
 -- the result, the payload and the state after it are those of the table, for the answers that were given to what it asks; and
 -- the devices tell what they took, and counted their faults
-pub record Gets (st : State) (plan : Plan) (result : Hr) (payload : List ℕ) (new : State) (faults : ℕ) (told : Option (List Held)) (faults' : ℕ) (told' : Option (List Held)) : Type 0 where
+pub record Gets (st : State) (plan : Plan) (result : Hr) (payload : List ℕ) (new : State) (faults : ℕ) (told : Option (List DeviceLog)) (faults' : ℕ) (told' : Option (List DeviceLog)) : Type 0 where
   pub given : List Answer
   pub answers : Answers (asked_of plan) given
   pub result-is : result ≡ (outcome_of st plan given).result
@@ -20,4 +20,4 @@ pub record Gets (st : State) (plan : Plan) (result : Hr) (payload : List ℕ) (n
 
 -- the same, of an event that asks no device
 abbrev pub Has : State → Plan → Hr → List ℕ → State → Type 0
-Has st plan result payload new = (faults : ℕ) (told : Option (List Held)) → Gets st plan result payload new faults told faults told
+Has st plan result payload new = (faults : ℕ) (told : Option (List DeviceLog)) → Gets st plan result payload new faults told faults told

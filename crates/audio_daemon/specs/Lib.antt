@@ -7,8 +7,6 @@ pub mod Period
 pub mod Playing
 pub mod Sounding
 pub mod Machine
-pub mod Pieces
-pub mod Stream
-pub mod Turns
 pub mod Gets
 pub mod Run
+pub mod StatusLine

@@ -1,9 +1,9 @@
 -- A period of the one endpoint, in two halves: before its device is asked, and after.
 use Rattle.std.specs.Prelude.{◌≡◌, ◌==◌, map, Bool, Option, Some, None, if◌then◌else◌}
-use Rattle.ca_machine.specs.Stage as stage
-use Rattle.ca_machine.specs.Moves.{finishes}
-use Rattle.ca_machine.specs.State.{State}
-use Rattle.ca_machine.specs.Tables.{bytes_due}
+use Rattle.first_machine.specs.Stage as stage
+use Rattle.first_machine.specs.Moves.{finishes}
+use Rattle.first_machine.specs.State.{State}
+use Rattle.first_machine.specs.Tables.{bytes_due}
 use Rattle.audio_daemon.specs.Playing.{plays, ends}
 use Rattle.audio_daemon.specs.Service.{endpoint_of}
 use Rattle.audio_daemon.specs.declared.machine.service.Endpoint.{Endpoint}

@@ -3,8 +3,8 @@ use Rattle.std.specs.Prelude.{ℕ, List, take, min, Bool, true, false, if◌then
 use Rattle.std.specs.List.{flat_map}
 use Rattle.ca_base.specs.declared.ids.Reason.TheVariants.{Removal}
 use Rattle.wave_format.specs.Frame.{frame_bytes}
-use Rattle.ca_machine.specs.Stage as stage
-use Rattle.ca_machine.specs.Moves.{is_playing, is_there, retires, picks, closes}
+use Rattle.first_machine.specs.Stage as stage
+use Rattle.first_machine.specs.Moves.{is_playing, is_there, retires, picks, closes}
 
 -- the frames that are due leave a stream that plays
 abbrev pub plays : stage.Endpoint → stage.Stream → stage.Stream

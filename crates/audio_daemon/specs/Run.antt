@@ -2,16 +2,15 @@
 use Rattle.std.specs.Prelude.{◌≡◌, ℕ, ◌==◌, ◌&&◌, not, List, [], ◌∷◌, map, codes, Bool, true, false, Option}
 use Rattle.std.specs.Option.{option_map}
 use Rattle.std.specs.Str.{bytes_eq}
-use Rattle.ca_base.specs.Faults.{Rose}
-use Rattle.device_io.specs.Held.{Held, add_all}
+use Rattle.device_io.specs.DeviceLog.{DeviceLog, add_all}
 use Rattle.ca_model.specs.declared.event.Event.{Event}
 use Rattle.ca_model.specs.declared.reply.Reply.{Reply}
-use Rattle.ca_machine.specs.State.{State, empty_state}
-use Rattle.ca_machine.specs.Step.{Entry, IsRun, Replies, FaultsAlong, answers_of, output_of}
-use Rattle.ca_machine.specs.Headline.{Headline}
-use Rattle.audio_daemon.specs.Stream.{Moment, Ends}
-use Rattle.audio_daemon.specs.declared.stream.StreamEnd.{StreamEnd}
-use Rattle.audio_daemon.specs.declared.stream.StreamEnd.TheVariants as ends
+use Rattle.first_machine.specs.State.{State, empty_state}
+use Rattle.first_machine.specs.Step.{Entry, IsRun, Replies, FaultsAlong, answers_of, output_of}
+use Rattle.first_machine.specs.Headline.{Headline}
+use Rattle.event_loop.specs.Ends.{Moment, Ends}
+use Rattle.event_loop.specs.declared.ends.LoopEnd.{LoopEnd}
+use Rattle.event_loop.specs.declared.ends.LoopEnd.TheVariants as ends
 use Rattle.audio_daemon.specs.declared.run.Status.{Status}
 use Rattle.audio_daemon.specs.declared.run.Status.TheVariants as status
 
@@ -34,22 +33,19 @@ EachReplies (entry ∷ entries) (r ∷ rs) = Replies entry r × EachReplies entr
 EachReplies [] (r ∷ rs) = ⊥
 EachReplies (entry ∷ entries) [] = ⊥
 
--- The events were answered by a run of the one-thread machine from its empty state: each reply is its entry's, the devices tell what
--- they told before and then the machine's output, their count of faults rose as the machine's answers say, and the headline holds.
-pub record Replayed {D : Type 0} (faults : D → ℕ) (told : D → Option (List Held)) (old : D) (events : List Event) (replies : List Reply) (new : D) : Type 0 where
+-- The events were answered by a run of the one-thread machine from its empty state: each reply is its entry's, the devices
+-- tell what they told before and then the machine's output, their count of faults rose as the machine's answers say, and
+-- the headline holds.
+pub record Replayed {D : Type 0} (faults : D → ℕ) (told : D → Option (List DeviceLog)) (old : D)
+    (events : List Event) (replies : List Reply) (new : D) : Type 0 where
   pub entries : List Entry
   pub state : State
-  pub events-are : map (λ entry. entry.event) entries ≡ events
+  pub events_are : map (λ entry. entry.event) entries ≡ events
   pub run : IsRun empty_state entries state
   pub replied : EachReplies entries replies
   pub tells : told new ≡ option_map (add_all (output_of entries)) (told old)
   pub counts : FaultsAlong (faults old) (answers_of entries) (faults new)
   pub headline : Headline entries state
-
--- the devices are as before
-pub record SameDevices {D : Type 0} (faults : D → ℕ) (told : D → Option (List Held)) (old new : D) : Type 0 where
-  pub tells : told new ≡ told old
-  pub counts : faults new ≡ faults old
 
 -- a status as the program's exit status
 abbrev pub exit_status : Status → ℕ
@@ -61,8 +57,8 @@ exit_status status.WriteFault = 5
 exit_status status.NoMemory = 6
 exit_status status.TooLong = 7
 
--- a stream's end as a status
-abbrev pub status_of : StreamEnd → Status
+-- the end of the event loop as a status
+abbrev pub status_of : LoopEnd → Status
 status_of ends.Done = status.Done
 status_of (ends.Malformed place) = status.Malformed place
 status_of ends.ReadFault = status.ReadFault
@@ -72,16 +68,18 @@ status_of ends.TooLong = status.TooLong
 
 -- the words are others, and nothing was done
 pub record IsUsage {D : Type 0} (words : List (List ℕ)) (old new : Moment D) : Type 0 where
-  pub words-are : is_replay words ≡ false
+  pub words_are : is_replay words ≡ false
   pub untouched : new ≡ old
 
--- the words are replay words, and the stream of events ended so
-pub record Ran {D : Type 0} (faults : D → ℕ) (told : D → Option (List Held)) (words : List (List ℕ)) (old new : Moment D) (end : StreamEnd) : Type 0 where
-  pub words-are : is_replay words ≡ true
-  pub ends : Ends (Replayed faults told) (SameDevices faults told) old new end
+-- the words are replay words, and the event loop over the machine ended so
+pub record Ran {D : Type 0} (faults : D → ℕ) (told : D → Option (List DeviceLog)) (words : List (List ℕ))
+    (old new : Moment D) (end : LoopEnd) : Type 0 where
+  pub words_are : is_replay words ≡ true
+  pub ends : Ends (Replayed faults told) old new end
 
 -- what each status says
-abbrev pub RunEnds : {D : Type 0} → (D → ℕ) → (D → Option (List Held)) → List (List ℕ) → Moment D → Moment D → Status → Type 0
+abbrev pub RunEnds : {D : Type 0} → (D → ℕ) → (D → Option (List DeviceLog)) → List (List ℕ) → Moment D → Moment D → Status
+    → Type 0
 RunEnds faults told words old new status.Usage = IsUsage words old new
 RunEnds faults told words old new status.Done = Ran faults told words old new ends.Done
 RunEnds faults told words old new (status.Malformed place) = Ran faults told words old new (ends.Malformed place)
@@ -90,11 +88,12 @@ RunEnds faults told words old new status.WriteFault = Ran faults told words old 
 RunEnds faults told words old new status.NoMemory = Ran faults told words old new ends.NoMemory
 RunEnds faults told words old new status.TooLong = Ran faults told words old new ends.TooLong
 
--- a count of faults rose where the run ended by that object's fault, and else stands as it was
-abbrev pub RoseAtRead : Status → ℕ → ℕ → Type 0
-RoseAtRead status.ReadFault before after = Rose before after
-RoseAtRead _ before after = after ≡ before
+-- whether the source is why the run ended
+abbrev pub read_failed : Status → Bool
+read_failed status.ReadFault = true
+read_failed _ = false
 
-abbrev pub RoseAtWrite : Status → ℕ → ℕ → Type 0
-RoseAtWrite status.WriteFault before after = Rose before after
-RoseAtWrite _ before after = after ≡ before
+-- whether the sink is why the run ended
+abbrev pub write_failed : Status → Bool
+write_failed status.WriteFault = true
+write_failed _ = false

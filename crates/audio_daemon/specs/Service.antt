@@ -4,8 +4,8 @@ use Rattle.std.specs.Prelude.{true, is_some}
 use Rattle.std.specs.Option.{option_map}
 use Rattle.std.specs.Borrow.{Bor}
 use Rattle.ca_base.specs.declared.ids.Gate.TheVariants as gate
-use Rattle.ca_machine.specs.Stage as stage
-use Rattle.ca_machine.specs.State.{State, Connection as TheConnection, Client as TheClient}
+use Rattle.first_machine.specs.Stage as stage
+use Rattle.first_machine.specs.State.{State, Connection as TheConnection, Client as TheClient}
 use Rattle.audio_daemon.specs.Streams.{stream_of, streams_in}
 use Rattle.audio_daemon.specs.declared.machine.stream.Stream.{Stream}
 use Rattle.audio_daemon.specs.declared.machine.service.Connection.{Connection}

@@ -2,7 +2,7 @@
 use Rattle.std.specs.Prelude.{ℕ, map, false, List, [], ◌∷◌, Option, Some, None}
 use Rattle.ca_base.specs.declared.ids.Gate.TheVariants as gate
 use Rattle.wave_format.specs.Frame.{frame_of}
-use Rattle.ca_machine.specs.Stage as stage
+use Rattle.first_machine.specs.Stage as stage
 use Rattle.audio_daemon.specs.declared.machine.stream.Stream.{Stream}
 
 -- the stream of a client on an endpoint; a word holds a frame of so many channels

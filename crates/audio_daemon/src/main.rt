@@ -1,27 +1,25 @@
 //! The audio service: a file of events in, replies and the frames of the devices out.
 #![tactic(auto)]
 
-ghost use Rattle.std.specs.Prelude.{◌≡◌};
-ghost use Rattle.audio_daemon.specs.Run.{exit_status};
+ghost use Rattle.std.specs.Prelude.{◌≡◌, None, if◌then◌else◌, slice_get};
+ghost use Rattle.std.specs.Option.{option_map};
+ghost use Rattle.std.specs.Io.KnownBytes.{Keeps};
+ghost use Rattle.audio_daemon.specs.Run.{exit_status, is_replay};
+ghost use Rattle.audio_daemon.specs.StatusLine.{Finishes};
 
 mod machine;
 mod run;
-mod stream;
+mod status_line;
 #[cfg(test)]
 mod tests;
 
 use ca_base::{NoMemory, StdSink, StdSource, Words};
 use device_io::FileDevices;
+use run::are_replay;
 pub use run::{Status, run};
 use std::env::{self, Env};
-use std::io::ErrorKind;
+use std::io::{ErrorKind, Write};
 use std::process::ExitCode;
-
-/// What the words of the command line are.
-const USAGE: &str = "usage: audio_daemon replay FOLDER
-
-Reads events from standard input, answers each in order, and writes the replies to standard output.
-What the endpoints play is added to FOLDER/endpoint-N.pcm: frames of signed 16-bit samples, little-endian.";
 
 /// The words of the command line, without the program's name. Words that aren't UTF-8 count as none.
 fn read_words<R: Env + AllocGlobal>(rt: &R) -> Result<Words, NoMemory> {
@@ -37,51 +35,58 @@ fn read_words<R: Env + AllocGlobal>(rt: &R) -> Result<Words, NoMemory> {
     Ok(words)
 }
 
-/// The exit status of a status, and the line that tells it on standard error.
-fn report<R: Eprint>(rt: &R, status: Status) -> u8
-    ensures { result ≡ exit_status status }
+/// The folder of the words `replay FOLDER`, and `None` if the words are others.
+fn folder_of(words: &Words) -> Option<&str>
+    ensures { option_map (λ folder. folder.now) result ≡
+        (if is_replay words.now then slice_get words.now 1 else None) }
 {
-    match status {
-        Status::Done => 0,
-        Status::Usage => {
-            let _ = rt.eprintln(USAGE);
-            2
-        }
-        Status::Malformed { place } => {
-            let _ = eprintln!(rt; "malformed at {place}");
-            3
-        }
-        Status::ReadFault => {
-            let _ = rt.eprintln("read fault");
-            4
-        }
-        Status::WriteFault => {
-            let _ = rt.eprintln("write fault");
-            5
-        }
-        Status::NoMemory => {
-            let _ = rt.eprintln("no memory");
-            6
-        }
-        Status::TooLong => {
-            let _ = rt.eprintln("input too long");
-            7
-        }
+    if are_replay(words) {
+        words.get(1)
+    } else {
+        None
     }
 }
 
-/// Runs over the real objects. What is still buffered for standard output is written at the end.
+/// Hands on what waits in the output, and answers how the program ends: as its run did, or by a write fault.
+fn finish<W: Write + Drop>(output: &mut StdSink<W>, status: Status) -> Status
+    ensures ends { Finishes status result output.old output.new }
+    ensures keeps { Keeps output.old.bytes output.new.bytes }
+{
+    match output.flush() {
+        Ok(()) => status,
+        Err(_) => Status::WriteFault,
+    }
+}
+
+/// Runs over the real objects. The words are looked at before any other memory is taken.
 fn run_here(rt: &HostRuntime) -> Result<Status, NoMemory> {
     let alloc = rt.alloc();
     let words = read_words(rt)?;
-    let folder = words.get(1).unwrap_or(".");
+    let Some(folder) = folder_of(&words) else {
+        return Ok(Status::Usage);
+    };
     let devices = FileDevices::new(*rt, alloc, folder)?;
     let mut input = StdSource::new(rt.stdin());
     let mut output = StdSink::new(alloc, rt.stdout())?;
     let (status, _devices) = run(alloc, &words, &mut input, &mut output, devices);
-    match output.flush() {
-        Ok(()) => Ok(status),
-        Err(_) => Ok(Status::WriteFault),
+    Ok(finish(&mut output, status))
+}
+
+/// Writes the line of a status to standard error, if it has one, and answers the exit status.
+fn report<R: Eprint>(rt: &R, status: Status) -> u8
+    ensures { result ≡ exit_status status }
+{
+    if status != Status::Done {
+        let _ = eprintln!(rt; "{status}");
+    }
+    match status {
+        Status::Done => 0,
+        Status::Usage => 2,
+        Status::Malformed { .. } => 3,
+        Status::ReadFault => 4,
+        Status::WriteFault => 5,
+        Status::NoMemory => 6,
+        Status::TooLong => 7,
     }
 }
 

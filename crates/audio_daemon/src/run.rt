@@ -1,14 +1,14 @@
 //! The top call.
 
-ghost use Rattle.audio_daemon.specs.Stream.{moment};
-ghost use Rattle.audio_daemon.specs.Run.{RunEnds, RoseAtRead, RoseAtWrite, is_folder, is_replay, status_of};
 ghost use Rattle.std.specs.Prelude.{◌≡◌};
+ghost use Rattle.event_loop.specs.Ends.{RoseIf, moment};
+ghost use Rattle.audio_daemon.specs.Run.{RunEnds, is_folder, is_replay, read_failed, status_of, write_failed};
 
-use crate::machine::Machine;
-use crate::stream::{StreamEnd, answer_stream};
+use crate::machine::{Machine, REPLY_ROOM};
 use ca_base::{Sink, Source, Words};
-use ca_machine::headline::headline;
 use device_io::Devices;
+use event_loop::{LoopEnd, answer_events};
+use first_machine::headline::headline;
 use std::alloc::Global;
 
 /// How a run of the program ended.
@@ -30,17 +30,17 @@ pub enum Status {
     TooLong,
 }
 
-impl From<StreamEnd> for Status {
+impl From<LoopEnd> for Status {
     ghost from_gives = { λ end status. status ≡ status_of end };
 
-    fn from(end: StreamEnd) -> Status {
+    fn from(end: LoopEnd) -> Status {
         match end {
-            StreamEnd::Done => Status::Done,
-            StreamEnd::Malformed { place } => Status::Malformed { place },
-            StreamEnd::ReadFault => Status::ReadFault,
-            StreamEnd::WriteFault => Status::WriteFault,
-            StreamEnd::NoMemory => Status::NoMemory,
-            StreamEnd::TooLong => Status::TooLong,
+            LoopEnd::Done => Status::Done,
+            LoopEnd::Malformed { place } => Status::Malformed { place },
+            LoopEnd::ReadFault => Status::ReadFault,
+            LoopEnd::WriteFault => Status::WriteFault,
+            LoopEnd::NoMemory => Status::NoMemory,
+            LoopEnd::TooLong => Status::TooLong,
         }
     }
 }
@@ -56,7 +56,7 @@ fn names_folder(word: &[u8]) -> bool
 }
 
 /// Whether the words are `replay FOLDER`.
-fn are_replay(words: &Words) -> bool
+pub fn are_replay(words: &Words) -> bool
     ensures { result ≡ is_replay words.now }
 {
     if words.len() != 2 {
@@ -68,9 +68,9 @@ fn are_replay(words: &Words) -> bool
     }
 }
 
-/// Does all that the program does: with the words `replay FOLDER` it reads events from the input to its end, answers each
-/// in order by the one-thread machine over the devices, and writes each reply after its event. The devices are handed
-/// back as the run left them.
+/// Does all that the program does: with the words `replay FOLDER` it reads events from the input to its end, answers
+/// each in order by the one-thread machine over the devices, and writes each reply after its event. The devices are
+/// handed back as the run left them.
 pub fn run<S: Source, K: Sink, D: Devices>(
     alloc: Global,
     words: &Words,
@@ -80,14 +80,14 @@ pub fn run<S: Source, K: Sink, D: Devices>(
 ) -> (Status, D)
     ensures ends { RunEnds D.faults D.told words.now (moment (S.left input.old) (K.written output.old) devices)
         (moment (S.left input.new) (K.written output.new) result.1) result.0 }
-    ensures source { RoseAtRead result.0 (S.faults input.old) (S.faults input.new) }
-    ensures sink { RoseAtWrite result.0 (K.faults output.old) (K.faults output.new) }
+    ensures source { RoseIf (read_failed result.0) (S.faults input.old) (S.faults input.new) }
+    ensures sink { RoseIf (write_failed result.0) (K.faults output.old) (K.faults output.new) }
 {
     headline();
     if !are_replay(words) {
         return (Status::Usage, devices);
     }
     let mut machine = Machine::new(alloc, devices);
-    let end = answer_stream(alloc, input, output, &mut machine);
+    let end = answer_events(alloc, input, output, &mut machine, REPLY_ROOM);
     (end.into(), machine.into_devices())
 }

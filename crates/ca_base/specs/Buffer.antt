@@ -1,7 +1,7 @@
--- A list of bytes with the room that it has taken.
+-- A list of bytes with the memory that it has taken. This project's own.
 use Rattle.std.specs.Prelude.{ℕ, List}
 
+-- the bytes, and how many fit without asking for memory, those of the list among them
 pub record Buffer : Type 0 where
   pub list : List ℕ
-  -- how many bytes fit without asking for memory, those of the list among them
-  pub room : ℕ
+  pub capacity : ℕ

@@ -1,7 +1,7 @@
--- Counts of faults of the objects of the outside.
+-- Counts of faults of the objects of the environment. This project's own.
 use Rattle.std.specs.Prelude.{◌≡◌, ℕ, ◌-◌, ◌^◌, ◌<◌, ◌≤◌, Result, Ok, Err}
 
--- the count rose, or stands at its last value, 2^64 - 1
+-- the count rose, or saturates at its last value, 2^64 - 1
 pub record Rose (before after : ℕ) : Type 0 where
   pub grows : before ≤ after
   pub moves : before < 2 ^ 64 - 1 → before < after

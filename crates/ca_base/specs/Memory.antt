@@ -12,7 +12,7 @@ pub record SourceState : Type 0 where
 -- what was written to a sink, how many bytes it takes in all, and its calls as for a source
 pub record SinkState : Type 0 where
   pub written : List ℕ
-  pub room : ℕ
+  pub capacity : ℕ
   pub calls : ℕ
   pub failing : List ℕ
   pub faults : ℕ
@@ -23,13 +23,13 @@ new_source bytes failing = record { left = bytes; calls = 0; failing = failing; 
 
 -- a sink to which no call was made
 abbrev pub new_sink : ℕ → List ℕ → SinkState
-new_sink room failing = record { written = []; room = room; calls = 0; failing = failing; faults = 0 }
+new_sink capacity failing = record { written = []; capacity = capacity; calls = 0; failing = failing; faults = 0 }
 
 -- how many bytes a sink still takes
-abbrev pub room_left : SinkState → ℕ
-room_left s = s.room - length s.written
+abbrev pub room_of : SinkState → ℕ
+room_of s = s.capacity - length s.written
 
--- a count after one more: it stands still at 2^64 - 1
+-- a count after one more: it saturates at 2^64 - 1
 abbrev pub raised : ℕ → ℕ
 raised n = min (n + 1) (2 ^ 64 - 1)
 
@@ -47,8 +47,20 @@ source_failed s = record { left = s.left; calls = raised s.calls; failing = s.fa
 
 -- a sink after a call that took these bytes
 abbrev pub sink_took : List ℕ → SinkState → SinkState
-sink_took front s = record { written = s.written ++ front; room = s.room; calls = raised s.calls; failing = s.failing; faults = s.faults }
+sink_took front s = record {
+  written = s.written ++ front;
+  capacity = s.capacity;
+  calls = raised s.calls;
+  failing = s.failing;
+  faults = s.faults;
+}
 
 -- a sink after a call that failed
 abbrev pub sink_failed : SinkState → SinkState
-sink_failed s = record { written = s.written; room = s.room; calls = raised s.calls; failing = s.failing; faults = raised s.faults }
+sink_failed s = record {
+  written = s.written;
+  capacity = s.capacity;
+  calls = raised s.calls;
+  failing = s.failing;
+  faults = raised s.faults;
+}

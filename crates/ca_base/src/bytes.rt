@@ -1,4 +1,4 @@
-//! Bytes on the heap, with room that is taken ahead.
+//! Bytes on the heap, with memory that is taken ahead.
 
 ghost use Rattle.std.specs.Prelude.{◌≡◌, ◌+◌, ◌≤◌, [], ◌++◌, length, IsOk, IfOk, OnOk, OnErr};
 
@@ -6,7 +6,7 @@ use crate::NoMemory;
 use std::alloc::Global;
 use std::marker::Model;
 
-/// A list of bytes, and the room that it has taken: how many bytes fit without asking for memory.
+/// A list of bytes, and its capacity: how many bytes fit without asking for memory.
 #[derive(Drop)]
 pub struct Bytes {
     items: Vec<u8>,
@@ -18,7 +18,7 @@ impl Model for Bytes {
 
     ghost Value = { Buffer };
 
-    ghost view = { λ b. record { list = b.items.items; room = vec_capacity b.items } };
+    ghost view = { λ b. record { list = b.items.items; capacity = vec_capacity b.items } };
 }
 
 impl Bytes {
@@ -31,25 +31,21 @@ impl Bytes {
         }
     }
 
-    /// No bytes, with room for so many.
-    pub fn with_room(alloc: Global, room: usize) -> Result<Bytes, NoMemory>
+    /// No bytes, with memory for `capacity` bytes.
+    pub fn with_capacity(alloc: Global, capacity: usize) -> Result<Bytes, NoMemory>
         ensures list { IfOk result (λ b. b.list ≡ []) }
-        ensures room { IfOk result (λ b. b.room ≡ room) }
+        ensures capacity { IfOk result (λ b. b.capacity ≡ capacity) }
     {
-        match Vec::with_capacity(alloc, room) {
-            Ok(items) => Ok(Bytes { items }),
-            Err(_) => Err(NoMemory),
-        }
+        let items = Vec::with_capacity(alloc, capacity)?;
+        Ok(Bytes { items })
     }
 
     /// A copy of these bytes.
     pub fn from_slice(alloc: Global, bytes: &[u8]) -> Result<Bytes, NoMemory>
         ensures { IfOk result (λ b. b.list ≡ bytes.now) }
     {
-        match Vec::from_slice(alloc, bytes) {
-            Ok(items) => Ok(Bytes { items }),
-            Err(_) => Err(NoMemory),
-        }
+        let items = Vec::from_slice(alloc, bytes)?;
+        Ok(Bytes { items })
     }
 
     pub fn len(&self) -> usize
@@ -64,37 +60,34 @@ impl Bytes {
         self.items.as_slice()
     }
 
-    /// Takes room for so many bytes more. `NoMemory` changes nothing.
+    /// Takes memory for `more` bytes behind those of the list. `NoMemory` changes nothing.
     pub fn reserve(&mut self, more: usize) -> Result<(), NoMemory>
         ensures list { self.new.list ≡ self.old.list }
-        ensures ok { OnOk result (length self.old.list + more ≤ self.new.room) }
-        ensures keeps { self.old.room ≤ self.new.room }
-        ensures fits { length self.old.list + more ≤ self.old.room → IsOk result }
+        ensures ok { OnOk result (length self.old.list + more ≤ self.new.capacity) }
+        ensures keeps { self.old.capacity ≤ self.new.capacity }
+        ensures fits { length self.old.list + more ≤ self.old.capacity → IsOk result }
         ensures err { OnErr result (self.new ≡ self.old) }
     {
-        match self.items.reserve(more) {
-            Ok(()) => Ok(()),
-            Err(_) => Err(NoMemory),
-        }
+        self.items.reserve(more)?;
+        Ok(())
     }
 
-    /// Adds the piece at the end. It asks for memory only where there is no room, and `NoMemory` changes nothing.
+    /// Adds the piece at the end. It asks for memory only if the piece exceeds the capacity. `NoMemory` leaves the list
+    /// as it was.
     pub fn append(&mut self, piece: &[u8]) -> Result<(), NoMemory>
         ensures ok { OnOk result (self.new.list ≡ self.old.list ++ piece.now) }
-        ensures keeps { self.old.room ≤ self.new.room }
-        ensures fits { length self.old.list + length piece.now ≤ self.old.room → IsOk result }
+        ensures keeps { self.old.capacity ≤ self.new.capacity }
+        ensures fits { length self.old.list + length piece.now ≤ self.old.capacity → IsOk result }
         ensures err { OnErr result (self.new.list ≡ self.old.list) }
     {
-        match self.items.extend_from_slice(piece) {
-            Ok(()) => Ok(()),
-            Err(_) => Err(NoMemory),
-        }
+        self.items.extend_from_slice(piece)?;
+        Ok(())
     }
 
-    /// Drops all bytes, and keeps the room.
+    /// Drops all bytes, and keeps the capacity.
     pub fn clear(&mut self)
         ensures list { self.new.list ≡ [] }
-        ensures keeps { self.old.room ≤ self.new.room }
+        ensures keeps { self.old.capacity ≤ self.new.capacity }
     {
         self.items.clear();
     }

@@ -1,6 +1,8 @@
 //! Result codes. Names and values are those of the Core Audio reference (winerror.h, audioclient.h), but for
 //! those marked as this project's own.
 
+ghost use Rattle.ca_base.specs.Codes.{CodesAreTabled};
+
 /// The result of a call: an HRESULT. The top bit is set in a refusal.
 #[derive(Clone, Copy, Debug, PartialEq, Eq)]
 pub struct Hr(pub u32);
@@ -72,3 +74,8 @@ impl Hr {
     /// A count would pass 2^62 (own).
     pub const WORN: Hr = Hr(0xA0040005);
 }
+
+/// Each code has its number in the table of the definitions.
+pub fn codes_are_tabled()
+    ensures { CodesAreTabled }
+{}

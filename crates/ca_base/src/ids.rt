@@ -62,3 +62,11 @@ pub struct Seen {
     pub words: u32,
     pub gate: Gate,
 }
+
+/// What a stream does with frames: it plays them, records them, or records what an endpoint plays.
+#[derive(Clone, Copy, Debug, PartialEq, Eq)]
+pub enum StreamKind {
+    Render,
+    Capture,
+    Loopback,
+}

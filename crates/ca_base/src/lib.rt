@@ -1,18 +1,25 @@
-//! What every layer of the service shares: numbers, result codes, texts, bytes, and the objects of the outside.
+//! What every layer of the service shares: numbers, result codes, limits, texts, bytes, and the objects of the
+//! environment.
 #![tactic(auto)]
 
 mod bytes;
 mod codes;
+mod faults;
 mod ids;
+pub mod limits;
 mod memory;
 mod outside;
 mod standard;
 mod text;
+pub mod values;
 mod words;
 
 pub use bytes::Bytes;
-pub use codes::Hr;
-pub use ids::{ClientNo, ConnNo, Dir, EndpointNo, Flow, Gate, Guid, Reason, Seen, SessionNo};
+pub use codes::{Hr, codes_are_tabled};
+pub use faults::Faults;
+pub use ids::{
+    ClientNo, ConnNo, Dir, EndpointNo, Flow, Gate, Guid, Reason, Seen, SessionNo, StreamKind,
+};
 pub use memory::{MemSink, MemSource};
 pub use outside::{Failed, NoMemory, Sink, Source};
 pub use standard::{StdSink, StdSource, read_once, write_once};

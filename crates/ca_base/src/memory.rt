@@ -2,21 +2,21 @@
 
 ghost use Rattle.std.specs.Prelude.{◌≡◌, ◌<◌, ◌↔◌, ◌==◌, ◌||◌, ◌++◌, length, min, take, drop, Some, IfOk, OnErr, IsErr, IsTrue};
 ghost use Rattle.ca_base.specs.Faults.{Counts};
-ghost use Rattle.ca_base.specs.Memory.{new_source, new_sink, room_left, is_failing};
+ghost use Rattle.ca_base.specs.Memory.{new_source, new_sink, room_of, is_failing};
 ghost use Rattle.ca_base.specs.Memory.{source_gave, source_failed, sink_took, sink_failed};
 
-use crate::{Bytes, Failed, NoMemory, Sink, Source};
+use crate::{Bytes, Failed, Faults, NoMemory, Sink, Source};
 use std::alloc::Global;
 use std::marker::Model;
 
-/// A source that gives these bytes. Its calls are numbered from 1, and a call whose number was named fails.
+/// A source that gives these bytes. Its calls are numbered from 1, and a call fails if its number was named.
 #[derive(Drop)]
 pub struct MemSource {
     bytes: Bytes,
     given: usize,
     calls: u64,
     failing: Vec<u64>,
-    faults: u64,
+    faults: Faults,
 }
 
 impl Model for MemSource {
@@ -45,15 +45,15 @@ impl MemSource {
             given: 0,
             calls: 0,
             failing,
-            faults: 0,
+            faults: Faults::new(),
         }
     }
 
-    /// How many calls have failed. The count stands still at 2^64 - 1.
+    /// How many calls have failed. The count saturates at 2^64 - 1.
     pub fn faults(&self) -> u64
         ensures { result ≡ self.now.faults }
     {
-        self.faults
+        self.faults.count()
     }
 }
 
@@ -75,8 +75,7 @@ impl Source for MemSource {
     {
         self.calls = self.calls.saturating_add(1);
         if self.failing.contains(&self.calls) {
-            self.faults = self.faults.saturating_add(1);
-            return Err(Failed);
+            return Err(self.faults.raise());
         }
         let (_, left) = self.bytes.as_slice().split_at(self.given);
         let count = buf.len().min(left.len());
@@ -86,14 +85,14 @@ impl Source for MemSource {
     }
 }
 
-/// A sink with room for so many bytes. Its calls are numbered from 1, and a call whose number was named fails.
+/// A sink that takes `capacity` bytes in all. Its calls are numbered from 1, and a call fails if its number was named.
 #[derive(Drop)]
 pub struct MemSink {
     bytes: Bytes,
-    room: usize,
+    capacity: usize,
     calls: u64,
     failing: Vec<u64>,
-    faults: u64,
+    faults: Faults,
 }
 
 impl Model for MemSink {
@@ -104,29 +103,29 @@ impl Model for MemSink {
 
     ghost view = { λ s. record {
       written = s.bytes.list;
-      room = s.room;
+      capacity = s.capacity;
       calls = s.calls;
       failing = s.failing.items;
       faults = s.faults;
     } };
 
-    ghost use Rattle.ca_base.specs.WithinRoom.{WithinRoom};
+    ghost use Rattle.ca_base.specs.WithinCapacity.{WithinCapacity};
 
-    ghost invariant = { λ s. WithinRoom s.bytes s.room };
+    ghost invariant = { λ s. WithinCapacity s.bytes s.capacity };
 }
 
 impl MemSink {
-    /// An empty sink that takes `room` bytes in all, and takes the memory for them now.
-    pub fn new(alloc: Global, room: usize, failing: Vec<u64>) -> Result<MemSink, NoMemory>
-        ensures { IfOk result (λ s. s ≡ new_sink room failing.items) }
+    /// An empty sink that takes `capacity` bytes in all. Their memory is taken now.
+    pub fn new(alloc: Global, capacity: usize, failing: Vec<u64>) -> Result<MemSink, NoMemory>
+        ensures { IfOk result (λ s. s ≡ new_sink capacity failing.items) }
     {
-        let bytes = Bytes::with_room(alloc, room)?;
+        let bytes = Bytes::with_capacity(alloc, capacity)?;
         Ok(MemSink {
             bytes,
-            room,
+            capacity,
             calls: 0,
             failing,
-            faults: 0,
+            faults: Faults::new(),
         })
     }
 
@@ -137,11 +136,11 @@ impl MemSink {
         self.bytes.as_slice()
     }
 
-    /// How many calls have failed. The count stands still at 2^64 - 1.
+    /// How many calls have failed. The count saturates at 2^64 - 1.
     pub fn faults(&self) -> u64
         ensures { result ≡ self.now.faults }
     {
-        self.faults
+        self.faults.count()
     }
 }
 
@@ -150,20 +149,19 @@ impl Sink for MemSink {
 
     ghost written = { λ s. Some s.written };
 
-    /// Takes what still fits. A call that fails takes nothing, and one that finds the room spent fails.
+    /// Takes what still fits. A call that fails takes nothing, and one that finds no room fails.
     fn write(&mut self, piece: &[u8]) -> Result<usize, Failed>
         requires { 0 < length piece.now }
         ensures cause { Counts result self.old.faults self.new.faults }
-        ensures fails { IsErr result ↔ IsTrue (is_failing self.old.calls self.old.failing || (room_left self.old == 0)) }
-        ensures count { IfOk result (λ n. n ≡ min (length piece.now) (room_left self.old)) }
+        ensures fails { IsErr result ↔ IsTrue (is_failing self.old.calls self.old.failing || (room_of self.old == 0)) }
+        ensures count { IfOk result (λ n. n ≡ min (length piece.now) (room_of self.old)) }
         ensures ok { IfOk result (λ n. self.new ≡ sink_took (take n piece.now) self.old) }
         ensures err { OnErr result (self.new ≡ sink_failed self.old) }
     {
         self.calls = self.calls.saturating_add(1);
-        let count = piece.len().min(self.room - self.bytes.len());
+        let count = piece.len().min(self.capacity - self.bytes.len());
         if count == 0 || self.failing.contains(&self.calls) {
-            self.faults = self.faults.saturating_add(1);
-            return Err(Failed);
+            return Err(self.faults.raise());
         }
         match self.bytes.append(&piece[..count]) {
             Ok(()) => Ok(count),

@@ -4,7 +4,7 @@ ghost use Rattle.std.specs.Prelude.{◌≡◌, ◌<◌, ◌≤◌, [], length, t
 ghost use Rattle.std.specs.Io.KnownBytes.{Appends, Consumes, IsAtEnd, Keeps};
 ghost use Rattle.ca_base.specs.Faults.{Counts};
 
-use crate::{Failed, NoMemory, Sink, Source};
+use crate::{Failed, Faults, NoMemory, Sink, Source};
 use std::alloc::Global;
 use std::io::{BufWriter, ErrorKind, Read, Write};
 use std::marker::Model;
@@ -13,7 +13,7 @@ use std::marker::Model;
 #[derive(Drop)]
 pub struct StdSource<R: Read + Drop> {
     reader: R,
-    faults: u64,
+    faults: Faults,
 }
 
 impl<R: Read + Drop> Model for StdSource<R> {
@@ -29,14 +29,17 @@ impl<R: Read + Drop> StdSource<R> {
     pub fn new(reader: R) -> StdSource<R>
         ensures { result ≡ record { bytes = R.remaining reader; faults = 0 } }
     {
-        StdSource { reader, faults: 0 }
+        StdSource {
+            reader,
+            faults: Faults::new(),
+        }
     }
 
-    /// How many calls have failed. The count stands still at 2^64 - 1.
+    /// How many calls have failed. The count saturates at 2^64 - 1.
     pub fn faults(&self) -> u64
         ensures { result ≡ self.now.faults }
     {
-        self.faults
+        self.faults.count()
     }
 }
 
@@ -45,7 +48,7 @@ impl<R: Read + Drop> Source for StdSource<R> {
 
     ghost left = { λ _. None };
 
-    /// Reads once. A read that a signal interrupts is tried again; any other error is a fault.
+    /// Reads once. A read that a signal interrupts is tried again, and any other error is a fault.
     fn read(&mut self, buf: &mut [u8]) -> Result<usize, Failed>
         requires { 0 < length buf.old }
         ensures count { IfOk result (λ n. n ≤ length buf.new) }
@@ -56,20 +59,17 @@ impl<R: Read + Drop> Source for StdSource<R> {
     {
         match read_once(&mut self.reader, buf) {
             Some(count) => Ok(count),
-            None => {
-                self.faults = self.faults.saturating_add(1);
-                Err(Failed)
-            }
+            None => Err(self.faults.raise()),
         }
     }
 }
 
-/// A sink over a writer, with a buffer of 64 KiB: the writer is called where a piece doesn't fit into the buffer, and by
-/// `flush`. A sink that is let go hands on what waits there, and tells nothing of a failure: flush it before.
+/// A sink over a writer, with a buffer of 64 KiB: the writer is called if a piece doesn't fit into the buffer, and by
+/// `flush`. A sink that is dropped hands on what waits there, and its failure is lost: flush it before.
 #[derive(Drop)]
 pub struct StdSink<W: Write + Drop> {
     out: BufWriter<W>,
-    faults: u64,
+    faults: Faults,
 }
 
 impl<W: Write + Drop> Model for StdSink<W> {
@@ -87,7 +87,7 @@ impl<W: Write + Drop> Model for StdSink<W> {
 
 impl<W: Write + Drop> StdSink<W> {
     /// The buffer's size in bytes.
-    pub const ROOM: usize = 65536;
+    pub const CAPACITY: usize = 65536;
 
     /// A sink over this writer. The memory of the buffer is taken now.
     pub fn new(alloc: Global, out: W) -> Result<StdSink<W>, NoMemory>
@@ -95,8 +95,11 @@ impl<W: Write + Drop> StdSink<W> {
         ensures waiting { IfOk result (λ s. s.waiting ≡ []) }
         ensures faults { IfOk result (λ s. s.faults ≡ 0) }
     {
-        match BufWriter::with_capacity(alloc, Self::ROOM, out) {
-            Ok(out) => Ok(StdSink { out, faults: 0 }),
+        match BufWriter::with_capacity(alloc, Self::CAPACITY, out) {
+            Ok(out) => Ok(StdSink {
+                out,
+                faults: Faults::new(),
+            }),
             Err(_) => Err(NoMemory),
         }
     }
@@ -109,18 +112,15 @@ impl<W: Write + Drop> StdSink<W> {
     {
         match self.out.flush() {
             Ok(()) => Ok(()),
-            Err(_) => {
-                self.faults = self.faults.saturating_add(1);
-                Err(Failed)
-            }
+            Err(_) => Err(self.faults.raise()),
         }
     }
 
-    /// How many calls have failed. The count stands still at 2^64 - 1.
+    /// How many calls have failed. The count saturates at 2^64 - 1.
     pub fn faults(&self) -> u64
         ensures { result ≡ self.now.faults }
     {
-        self.faults
+        self.faults.count()
     }
 }
 
@@ -141,15 +141,12 @@ impl<W: Write + Drop> Sink for StdSink<W> {
     {
         match write_once(&mut self.out, piece) {
             Some(count) => Ok(count),
-            None => {
-                self.faults = self.faults.saturating_add(1);
-                Err(Failed)
-            }
+            None => Err(self.faults.raise()),
         }
     }
 }
 
-/// One read, tried again where a signal interrupts it. `None` where it fails.
+/// One read, tried again if a signal interrupts it. `None` if it fails.
 #[tactic(auto, using(crate::proofs::Known::after_tries))]
 pub fn read_once<R: Read>(reader: &mut R, buf: &mut [u8]) -> Option<usize>
     requires { 0 < length buf.old }
@@ -168,7 +165,7 @@ pub fn read_once<R: Read>(reader: &mut R, buf: &mut [u8]) -> Option<usize>
     None
 }
 
-/// One write of at least one byte, tried again where a signal interrupts it. `None` where it fails or takes nothing.
+/// One write of at least one byte, tried again if a signal interrupts it. `None` if it fails or takes nothing.
 #[tactic(auto, using(crate::proofs::Known::after_tries))]
 pub fn write_once<W: Write>(out: &mut W, piece: &[u8]) -> Option<usize>
     ensures some { IfSome result (λ n. 0 < n) }

@@ -35,8 +35,8 @@ fn a_sink_in_memory(rt: HostRuntime) -> Result<(), Fail> {
 }
 
 #[test]
-fn bytes_and_their_room(rt: HostRuntime) -> Result<(), Fail> {
-    let mut bytes = Bytes::with_room(rt.alloc(), 2)?;
+fn bytes_and_their_capacity(rt: HostRuntime) -> Result<(), Fail> {
+    let mut bytes = Bytes::with_capacity(rt.alloc(), 2)?;
     bytes.append(&[1, 2])?;
     bytes.reserve(2)?;
     bytes.append(&[3, 4])?;

@@ -2,12 +2,13 @@
 
 ghost use Rattle.std.specs.Prelude.{◌≡◌, ◌≤◌, length};
 
+use crate::limits::MAX_TEXT;
 use std::marker::Model;
 
 /// A list of at most 256 bytes, which need not be UTF-8.
 #[derive(Clone, Copy)]
 pub struct Text {
-    bytes: [u8; 256],
+    bytes: [u8; MAX_TEXT],
     len: usize,
 }
 
@@ -28,26 +29,26 @@ impl Model for Text {
 
 impl Text {
     /// The longest text, in bytes.
-    pub const MAX: usize = 256;
+    pub const MAX: usize = MAX_TEXT;
 
     /// The text of these bytes.
     pub fn new(bytes: &[u8]) -> Text
-        requires { length bytes.now ≤ 256 }
+        requires { length bytes.now ≤ MAX_TEXT }
         ensures { result ≡ bytes.now }
     {
-        let mut held = [0; 256];
+        let mut padded = [0; MAX_TEXT];
         for (i, byte) in bytes.iter().enumerate() {
-            held[i] = *byte;
+            padded[i] = *byte;
         }
         Text {
-            bytes: held,
+            bytes: padded,
             len: bytes.len(),
         }
     }
 
     pub fn as_bytes(&self) -> &[u8]
         ensures value { result.now ≡ self.now }
-        ensures within { length self.now ≤ 256 }
+        ensures within { length self.now ≤ MAX_TEXT }
     {
         &self.bytes[..self.len]
     }

@@ -39,13 +39,9 @@ impl Words {
         ensures ok { OnOk result (self.new ≡ self.old ++ word.now ∷ []) }
         ensures err { OnErr result (self.new ≡ self.old) }
     {
-        let Ok(word) = String::from_str(self.alloc, word) else {
-            return Err(NoMemory);
-        };
-        match self.words.push(word) {
-            Ok(()) => Ok(()),
-            Err(_) => Err(NoMemory),
-        }
+        let word = String::from_str(self.alloc, word)?;
+        self.words.push(word)?;
+        Ok(())
     }
 
     /// How many words there are.
@@ -55,7 +51,7 @@ impl Words {
         self.words.len()
     }
 
-    /// The word at this index, from 0: `None` exactly where the index is not below the length.
+    /// The word at this index, from 0: `None` exactly if the index isn't below the length.
     pub fn get(&self, i: usize) -> Option<&str>
         ensures there { IsSome result ↔ (i < length self.now) }
         ensures word { option_map (λ w. w.now) result ≡ slice_get self.now i }

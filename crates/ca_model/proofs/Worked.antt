@@ -7,13 +7,14 @@ use Rattle.ca_model.specs.declared.event.Call.TheVariants as call
 use Rattle.ca_model.specs.declared.event.DeviceEvent.TheVariants as device
 use Rattle.ca_model.specs.Spelling.{frame}
 use Rattle.ca_model.specs.Replies.{reply_frame}
-use Rattle.ca_model.specs.Rows.{first}
+use Rattle.ca_base.specs.Rows.{first}
 
 period : frame (event.Period (record { 0 = 7 })) ≡ 5 ∷ 0 ∷ 0 ∷ 0 ∷ 4 ∷ 7 ∷ 0 ∷ 0 ∷ 0 ∷ []
 period = refl
 
 -- a process, and a name of two bytes
-opened : frame (event.Open (record { 0 = 32 }) 266 (112 ∷ 108 ∷ [])) ≡ 10 ∷ 0 ∷ 0 ∷ 0 ∷ 1 ∷ 32 ∷ 10 ∷ 1 ∷ 0 ∷ 0 ∷ 2 ∷ 0 ∷ 112 ∷ 108 ∷ []
+opened : frame (event.Open (record { 0 = 32 }) 266 (112 ∷ 108 ∷ []))
+    ≡ 10 ∷ 0 ∷ 0 ∷ 0 ∷ 1 ∷ 32 ∷ 10 ∷ 1 ∷ 0 ∷ 0 ∷ 2 ∷ 0 ∷ 112 ∷ 108 ∷ []
 opened = refl
 
 -- the bytes of a call of connection 1 with tag 2, behind its code
@@ -28,8 +29,11 @@ activated : called 12 (call.Activate (record { 0 = 3 }) 255) (5 ∷ 3 ∷ 0 ∷ 
 activated = refl
 
 -- a GUID is in the order of RFC 9562
-initialized : called 58 (call.Initialize (record { 0 = 258 }) 1 4 5 6 (record { list = 9 ∷ []; room = 1 }) (record { 0 = 513 }))
-    (16 ∷ client ++ 1 ∷ 0 ∷ 0 ∷ 0 ∷ 4 ∷ 0 ∷ 0 ∷ 0 ∷ 5 ∷ replicate 7 0 ++ 6 ∷ replicate 7 0 ++ 1 ∷ 0 ∷ 9 ∷ replicate 14 0 ++ 2 ∷ 1 ∷ [])
+initialized :
+    called 58 (call.Initialize (record { 0 = 258 }) 1 4 5 6 (record { list = 9 ∷ []; capacity = 1 })
+    (record { 0 = 513 }))
+    (16 ∷ client ++ 1 ∷ 0 ∷ 0 ∷ 0 ∷ 4 ∷ 0 ∷ 0 ∷ 0 ∷ 5 ∷ replicate 7 0
+    ++ 6 ∷ replicate 7 0 ++ 1 ∷ 0 ∷ 9 ∷ replicate 14 0 ++ 2 ∷ 1 ∷ [])
 initialized = refl
 
 started : called 15 (call.Start (record { 0 = 258 })) (23 ∷ client)
@@ -38,18 +42,23 @@ started = refl
 leased : called 19 (call.GetBuffer (record { 0 = 258 }) 480) (32 ∷ client ++ 224 ∷ 1 ∷ 0 ∷ 0 ∷ [])
 leased = refl
 
-released : called 25 (call.ReleaseBuffer (record { 0 = 258 }) 1 2 (record { list = 8 ∷ 9 ∷ []; room = 5 })) (33 ∷ client ++ 1 ∷ 0 ∷ 0 ∷ 0 ∷ 2 ∷ 0 ∷ 0 ∷ 0 ∷ 8 ∷ 9 ∷ [])
+released : called 25 (call.ReleaseBuffer (record { 0 = 258 }) 1 2 (record { list = 8 ∷ 9 ∷ []; capacity = 5 }))
+    (33 ∷ client ++ 1 ∷ 0 ∷ 0 ∷ 0 ∷ 2 ∷ 0 ∷ 0 ∷ 0 ∷ 8 ∷ 9 ∷ [])
 released = refl
 
 -- a code that isn't listed
-other : called 9 (call.Other 17 (record { list = 7 ∷ 7 ∷ []; room = 2 })) (17 ∷ 7 ∷ 7 ∷ [])
+other : called 9 (call.Other 17 (record { list = 7 ∷ 7 ∷ []; capacity = 2 })) (17 ∷ 7 ∷ 7 ∷ [])
 other = refl
 
-added : frame (event.Device (device.Add (record { 0 = 1 }) 0 (record { list = 6 ∷ []; room = 1 }) (83 ∷ []))) ≡ 13 ∷ 0 ∷ 0 ∷ 0 ∷ 5 ∷ 1 ∷ 1 ∷ 0 ∷ 0 ∷ 0 ∷ 0 ∷ 1 ∷ 0 ∷ 6 ∷ 1 ∷ 0 ∷ 83 ∷ []
+added : frame (event.Device (device.Add (record { 0 = 1 }) 0 (record { list = 6 ∷ []; capacity = 1 }) (83 ∷ [])))
+    ≡ 13 ∷ 0 ∷ 0 ∷ 0 ∷ 5 ∷ 1 ∷ 1 ∷ 0 ∷ 0 ∷ 0 ∷ 0 ∷ 1 ∷ 0 ∷ 6 ∷ 1 ∷ 0 ∷ 83 ∷ []
 added = refl
 
 -- a reply: its payload is two bytes
-replied : reply_frame (record { kind = 3; conn = 1; tag = 258; result = hr.S_FALSE; payload = record { list = 7 ∷ 8 ∷ []; room = 8 } }) ≡ 12 ∷ 0 ∷ 0 ∷ 0 ∷ 3 ∷ 1 ∷ 2 ∷ 1 ∷ 0 ∷ 0 ∷ 1 ∷ 0 ∷ 0 ∷ 0 ∷ 7 ∷ 8 ∷ []
+replied :
+    reply_frame
+    (record { kind = 3; conn = 1; tag = 258; result = hr.S_FALSE; payload = record { list = 7 ∷ 8 ∷ []; capacity = 8 } })
+    ≡ 12 ∷ 0 ∷ 0 ∷ 0 ∷ 3 ∷ 1 ∷ 2 ∷ 1 ∷ 0 ∷ 0 ∷ 1 ∷ 0 ∷ 0 ∷ 0 ∷ 7 ∷ 8 ∷ []
 replied = refl
 
 -- the answer is the first row that holds

@@ -1,7 +1,26 @@
 -- The spelling of events in a file: each event has one frame (this project's own wire form).
-use Rattle.std.specs.Prelude.{◌≡◌, ℕ, ◌+◌, ◌<◌, ◌≤◌, List, [], ◌∷◌, ◌++◌, length, take, Option, Some, None, nat_eq, if◌then◌else◌}
+use Rattle.std.specs.Prelude.{
+  ◌≡◌,
+  ℕ,
+  ◌+◌,
+  ◌<◌,
+  ◌≤◌,
+  List,
+  [],
+  ◌∷◌,
+  ◌++◌,
+  length,
+  take,
+  Option,
+  Some,
+  None,
+  nat_eq,
+  if◌then◌else◌,
+}
 use Rattle.std.specs.List.{flat_map, AllByRecursion}
 use Rattle.std.specs.Int.{w32, to_le_bytes, from_le_bytes}
+use Rattle.ca_base.specs.declared.limits.TheConstants.{LONGEST_BODY}
+use Rattle.ca_base.specs.declared.values.TheConstants.{KIND_OPEN, KIND_CALL, KIND_PERIOD, KIND_DEVICE}
 use Rattle.ca_model.specs.declared.event.Event.{Event}
 use Rattle.ca_model.specs.declared.event.Event.TheVariants as event
 use Rattle.ca_model.specs.declared.event.Call.{Call}
@@ -9,22 +28,23 @@ use Rattle.ca_model.specs.declared.event.Call.TheVariants as call
 use Rattle.ca_model.specs.declared.event.DeviceEvent.{DeviceEvent}
 use Rattle.ca_model.specs.declared.event.DeviceEvent.TheVariants as device
 use Rattle.ca_model.specs.Fields.{Kind, Field, AllFit, fields_bytes}
-use Rattle.ca_model.specs.Fields.Kind.{connection, byte, four, eight, guid, text, format, rest}
+use Rattle.ca_model.specs.Fields.Kind.{connection, byte, four_bytes, eight_bytes, guid, text, format, rest}
 use Rattle.ca_model.specs.Fields.Field.{number, bytes}
 
--- the calls that are listed, by code, and the kinds of their fields
+-- the calls that are listed, by code, and the kinds of their fields. Those that come with later versions aren't listed
+-- yet, and so have no spelling of their own
 abbrev pub calls : List (ℕ × List Kind)
 calls =
-    (5, four ∷ byte ∷ [])
-    ∷ (16, eight ∷ four ∷ four ∷ eight ∷ eight ∷ format ∷ guid ∷ [])
-    ∷ (23, eight ∷ [])
-    ∷ (32, eight ∷ four ∷ [])
-    ∷ (33, eight ∷ four ∷ four ∷ rest ∷ [])
+    (5, four_bytes ∷ byte ∷ [])
+    ∷ (16, eight_bytes ∷ four_bytes ∷ four_bytes ∷ eight_bytes ∷ eight_bytes ∷ format ∷ guid ∷ [])
+    ∷ (23, eight_bytes ∷ [])
+    ∷ (32, eight_bytes ∷ four_bytes ∷ [])
+    ∷ (33, eight_bytes ∷ four_bytes ∷ four_bytes ∷ rest ∷ [])
     ∷ []
 
 -- the device events that are listed
 abbrev pub device_events : List (ℕ × List Kind)
-device_events = (1, four ∷ byte ∷ format ∷ text ∷ []) ∷ []
+device_events = (1, four_bytes ∷ byte ∷ format ∷ text ∷ []) ∷ []
 
 -- what a table has for a code
 abbrev pub listed : ℕ → List (ℕ × List Kind) → Option (List Kind)
@@ -38,19 +58,41 @@ or_rest None = rest ∷ []
 
 abbrev pub call_code : Call → ℕ
 call_code (call.Activate e role) = 5
+call_code (call.Release c) = 6
 call_code (call.Initialize c share flags duration period f session) = 16
+call_code (call.GetBufferSize c) = 17
+call_code (call.GetStreamLatency c) = 18
+call_code (call.GetCurrentPadding c) = 19
+call_code (call.IsFormatSupported c share f) = 20
+call_code (call.GetMixFormat c) = 21
+call_code (call.GetDevicePeriod c) = 22
 call_code (call.Start c) = 23
+call_code (call.Stop c) = 24
+call_code (call.Reset c) = 25
+call_code (call.GetService c service) = 27
+call_code (call.GetPosition c) = 28
 call_code (call.GetBuffer c n) = 32
-call_code (call.ReleaseBuffer c n flags data') = 33
+call_code (call.ReleaseBuffer c n flags buffer) = 33
 call_code (call.Other code tail) = code
 
 abbrev pub call_fields : Call → List Field
 call_fields (call.Activate e role) = number e.0 ∷ number role ∷ []
+call_fields (call.Release c) = number c.0 ∷ []
 call_fields (call.Initialize c share flags duration period f session) =
     number c.0 ∷ number share ∷ number flags ∷ number duration ∷ number period ∷ bytes f.list ∷ number session.0 ∷ []
+call_fields (call.GetBufferSize c) = number c.0 ∷ []
+call_fields (call.GetStreamLatency c) = number c.0 ∷ []
+call_fields (call.GetCurrentPadding c) = number c.0 ∷ []
+call_fields (call.IsFormatSupported c share f) = number c.0 ∷ number share ∷ bytes f.list ∷ []
+call_fields (call.GetMixFormat c) = number c.0 ∷ []
+call_fields (call.GetDevicePeriod c) = number c.0 ∷ []
 call_fields (call.Start c) = number c.0 ∷ []
+call_fields (call.Stop c) = number c.0 ∷ []
+call_fields (call.Reset c) = number c.0 ∷ []
+call_fields (call.GetService c service) = number c.0 ∷ number service ∷ []
+call_fields (call.GetPosition c) = number c.0 ∷ []
 call_fields (call.GetBuffer c n) = number c.0 ∷ number n ∷ []
-call_fields (call.ReleaseBuffer c n flags data') = number c.0 ∷ number n ∷ number flags ∷ bytes data'.list ∷ []
+call_fields (call.ReleaseBuffer c n flags buffer) = number c.0 ∷ number n ∷ number flags ∷ bytes buffer.list ∷ []
 call_fields (call.Other code tail) = bytes tail.list ∷ []
 
 abbrev pub device_code : DeviceEvent → ℕ
@@ -63,26 +105,22 @@ device_fields (device.Other code tail) = bytes tail.list ∷ []
 
 -- the kinds of an event's fields: first the byte that says what it is
 abbrev pub kinds : Event → List Kind
-kinds (event.Open c pid name) = byte ∷ connection ∷ four ∷ text ∷ []
-kinds (event.Call c tag x) = byte ∷ connection ∷ four ∷ byte ∷ or_rest (listed (call_code x) calls)
-kinds (event.Period e) = byte ∷ four ∷ []
+kinds (event.Open c pid name) = byte ∷ connection ∷ four_bytes ∷ text ∷ []
+kinds (event.Call c tag x) = byte ∷ connection ∷ four_bytes ∷ byte ∷ or_rest (listed (call_code x) calls)
+kinds (event.Period e) = byte ∷ four_bytes ∷ []
 kinds (event.Device x) = byte ∷ byte ∷ or_rest (listed (device_code x) device_events)
 
 abbrev pub fields : Event → List Field
-fields (event.Open c pid name) = number 1 ∷ number c.0 ∷ number pid ∷ bytes name ∷ []
-fields (event.Call c tag x) = number 3 ∷ number c.0 ∷ number tag ∷ number (call_code x) ∷ call_fields x
-fields (event.Period e) = number 4 ∷ number e.0 ∷ []
-fields (event.Device x) = number 5 ∷ number (device_code x) ∷ device_fields x
+fields (event.Open c pid name) = number KIND_OPEN ∷ number c.0 ∷ number pid ∷ bytes name ∷ []
+fields (event.Call c tag x) = number KIND_CALL ∷ number c.0 ∷ number tag ∷ number (call_code x) ∷ call_fields x
+fields (event.Period e) = number KIND_PERIOD ∷ number e.0 ∷ []
+fields (event.Device x) = number KIND_DEVICE ∷ number (device_code x) ∷ device_fields x
 
 -- a listed code is never spelled as another
 abbrev pub CodeIsOwn : Event → Type 0
 CodeIsOwn (event.Call c tag (call.Other code tail)) = listed code calls ≡ None
 CodeIsOwn (event.Device (device.Other code tail)) = listed code device_events ≡ None
 CodeIsOwn _ = Unit {0}
-
--- the longest body of a frame, in bytes
-abbrev pub longest : ℕ
-longest = 4194304
 
 abbrev pub body : Event → List ℕ
 body e = fields_bytes (kinds e) (fields e)
@@ -95,7 +133,7 @@ frame e = to_le_bytes w32 (length (body e)) ++ body e
 pub record IsEvent (e : Event) : Type 0 where
   pub fit : AllFit (kinds e) (fields e)
   pub own : CodeIsOwn e
-  pub short : length (body e) ≤ longest
+  pub within : length (body e) ≤ LONGEST_BODY
 
 -- the spellings of events, one after another
 abbrev pub frames : List Event → List ℕ
@@ -105,10 +143,10 @@ frames es = flat_map frame es
 abbrev pub stated_length : List ℕ → ℕ
 stated_length bs = from_le_bytes w32 (take 4 bs)
 
--- a lawful length, and fewer bytes than it says; or not even the length
-pub data IsShort (bs : List ℕ) : Type 0 where
-  no_length : length bs < 4 → IsShort bs
-  no_body : 0 < stated_length bs → stated_length bs ≤ longest → length bs < 4 + stated_length bs → IsShort bs
+-- an incomplete prefix of a frame: a valid length, and fewer bytes than it says; or not even the length
+pub data IsIncomplete (bs : List ℕ) : Type 0 where
+  no_length : length bs < 4 → IsIncomplete bs
+  no_body : 0 < stated_length bs → stated_length bs ≤ LONGEST_BODY → length bs < 4 + stated_length bs → IsIncomplete bs
 
 -- an event's spelling stands at the front
 pub record Begins (e : Event) (bs : List ℕ) : Type 0 where
@@ -119,9 +157,9 @@ pub record Begins (e : Event) (bs : List ℕ) : Type 0 where
 abbrev pub NoEvent : List ℕ → Type 0
 NoEvent bs = (e : Event) → Begins e bs → ⊥
 
--- the front is neither an event nor the beginning of a frame of lawful length
+-- the front is neither an event nor an incomplete prefix of a frame
 pub record IsMalformed (bs : List ℕ) : Type 0 where
-  pub whole : IsShort bs → ⊥
+  pub whole : IsIncomplete bs → ⊥
   pub none : NoEvent bs
 
 -- the cut of an input: the longest list of events whose spellings stand at the front, and the rest

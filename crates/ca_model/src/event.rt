@@ -23,6 +23,10 @@ pub enum Call {
         endpoint: EndpointNo,
         role: u8,
     },
+    /// 6: the client is released (IUnknown::Release of an IAudioClient).
+    Release {
+        client: ClientNo,
+    },
     /// 16: IAudioClient::Initialize. Times are in units of 100 ns, the format is WAVEFORMATEX bytes.
     Initialize {
         client: ClientNo,
@@ -33,8 +37,51 @@ pub enum Call {
         format: Bytes,
         session: Guid,
     },
+    /// 17: IAudioClient::GetBufferSize.
+    GetBufferSize {
+        client: ClientNo,
+    },
+    /// 18: IAudioClient::GetStreamLatency.
+    GetStreamLatency {
+        client: ClientNo,
+    },
+    /// 19: IAudioClient::GetCurrentPadding.
+    GetCurrentPadding {
+        client: ClientNo,
+    },
+    /// 20: IAudioClient::IsFormatSupported. The format is WAVEFORMATEX bytes.
+    IsFormatSupported {
+        client: ClientNo,
+        share: u32,
+        format: Bytes,
+    },
+    /// 21: IAudioClient::GetMixFormat.
+    GetMixFormat {
+        client: ClientNo,
+    },
+    /// 22: IAudioClient::GetDevicePeriod.
+    GetDevicePeriod {
+        client: ClientNo,
+    },
     /// 23: IAudioClient::Start.
     Start {
+        client: ClientNo,
+    },
+    /// 24: IAudioClient::Stop.
+    Stop {
+        client: ClientNo,
+    },
+    /// 25: IAudioClient::Reset.
+    Reset {
+        client: ClientNo,
+    },
+    /// 27: IAudioClient::GetService, by the service's number from 1 to 7 (own).
+    GetService {
+        client: ClientNo,
+        service: u32,
+    },
+    /// 28: IAudioClock::GetPosition.
+    GetPosition {
         client: ClientNo,
     },
     /// 32: IAudioRenderClient::GetBuffer, of so many frames.

@@ -1,4 +1,6 @@
+-- cited by public contracts
 pub mod Laws
 pub mod Next
 pub mod Reading
-pub mod Runs
+-- cited by the contracts of this crate's own readers alone
+pub mod Readers

@@ -1,93 +1,71 @@
--- Reading the fields of an event from left to right (this project's own). It stands beside the spelling: laws say
--- that each undoes the other.
-use Rattle.std.specs.Prelude.{◌≡◌, ℕ, List, [], ◌∷◌, length, take, drop, Option, Some, None, Result, Ok, Err, nat_lt, ◌==◌, ◌||◌, if◌then◌else◌}
+-- Reading the fields of an event from left to right (the whole file is this project's own wire form): `None` if the
+-- bytes don't spell such fields. Laws say that reading undoes spelling, and spelling undoes reading. Public contracts
+-- cite it.
+use Rattle.std.specs.Prelude.{ℕ, List, [], ◌∷◌, length, take, drop, Bool, true, false, Option, Some, None, nat_lt, ◌==◌}
+use Rattle.std.specs.Prelude.{◌||◌, if◌then◌else◌, slice_index}
+use Rattle.std.specs.List.{list_any}
 use Rattle.std.specs.Int.{w16, w32, w64, w128, from_le_bytes, from_be_bytes}
-use Rattle.call_wire.specs.declared.fault.Fault.{Fault}
-use Rattle.call_wire.specs.declared.fault.Fault.TheVariants as fault
-use Rattle.call_wire.specs.declared.fault.NoField.{NoField}
-use Rattle.ca_model.specs.declared.event.Call.{Call}
-use Rattle.ca_model.specs.declared.event.Call.TheVariants as call
-use Rattle.ca_model.specs.declared.event.DeviceEvent.{DeviceEvent}
-use Rattle.ca_model.specs.declared.event.DeviceEvent.TheVariants as device
-use Rattle.ca_model.specs.declared.event.Event.{Event}
+use Rattle.std.specs.Option.{option_map_or}
+use Rattle.ca_base.specs.declared.limits.TheConstants.{CONNECTIONS, MAX_TEXT}
+use Rattle.call_wire.specs.declared.fields.TheConstants.{MAX_FORMAT}
+use Rattle.ca_base.specs.declared.values.TheConstants.{KIND_OPEN, KIND_CALL, KIND_PERIOD, KIND_DEVICE}
 use Rattle.ca_model.specs.Fields.{Kind, Field}
-use Rattle.ca_model.specs.Fields.Kind.{connection, byte, four, eight, guid, text, format, rest}
+use Rattle.ca_model.specs.Fields.Kind.{connection, byte, four_bytes, eight_bytes, guid, text, format, rest}
 use Rattle.ca_model.specs.Fields.Field.{number, bytes}
-use Rattle.ca_model.specs.Spelling.{calls, device_events, listed, or_rest, call_code, call_fields, device_code, device_fields, fields, CodeIsOwn}
+use Rattle.ca_model.specs.Spelling.{calls, device_events, listed, or_rest}
 
 infixl 10 ◌>>=◌
--- what is read goes into the next step
+-- what was read goes into the next step
 abbrev pub ◌>>=◌ : {A B : Type 0} → Option A → (A → Option B) → Option B
 None >>= f = None
 (Some x) >>= f = f x
 
--- what a function returned, seen by view, is what reading gives
-abbrev pub Gives : {A B : Type 0} → (A → B) → Result A NoField → Option B → Type 0
-Gives view (Ok x) read = read ≡ Some (view x)
-Gives view (Err f) read = read ≡ None
+-- ---- what is at the front, and the bytes after it
 
--- the bytes are at fault only where reading gives nothing
-abbrev pub Fails : {A : Type 0} → Fault → Option A → Type 0
-Fails fault.Memory read = Unit {0}
-Fails fault.Malformed read = read ≡ None
+-- `size` bytes
+unfoldable pub bytes_at : ℕ → List ℕ → Option (List ℕ × List ℕ)
+bytes_at size bs = if nat_lt (length bs) size then None else Some (take size bs, drop size bs)
 
--- a number of so many bytes, by what they are worth, and the bytes after it
-abbrev pub number_at : ℕ → (List ℕ → ℕ) → List ℕ → Option (ℕ × List ℕ)
-number_at size worth bs = if nat_lt (length bs) size then None else Some (worth (take size bs), drop size bs)
+-- a number of `size` bytes, by what they are worth
+unfoldable pub number_at : ℕ → (List ℕ → ℕ) → List ℕ → Option (ℕ × List ℕ)
+number_at size worth bs = do
+  front ← bytes_at size bs
+  Some (worth front.0, front.1)
 
--- so many bytes, and the bytes after them
-abbrev pub so_many : ℕ → List ℕ → Option (Field × List ℕ)
-so_many n bs = if nat_lt (length bs) n then None else Some (bytes (take n bs), drop n bs)
-
--- a connection's number, from 1 to 32, and the bytes after it
-unfoldable pub connection_at : List ℕ → Option (Field × List ℕ)
-connection_at [] = None
-connection_at (n ∷ bs) = if n == 0 || nat_lt 32 n then None else Some (number n, bs)
-
--- one byte, and the bytes after it
-unfoldable pub byte_at : List ℕ → Option (Field × List ℕ)
+-- one byte
+unfoldable pub byte_at : List ℕ → Option (ℕ × List ℕ)
 byte_at [] = None
-byte_at (n ∷ bs) = Some (number n, bs)
+byte_at (n ∷ bs) = Some (n, bs)
 
--- four bytes, little-endian, and the bytes after them
-unfoldable pub four_at : List ℕ → Option (Field × List ℕ)
-four_at bs = do
-  n ← number_at 4 (from_le_bytes w32) bs
-  Some (number n.0, n.1)
+-- a connection's number, from 1 to CONNECTIONS
+unfoldable pub connection_at : List ℕ → Option (ℕ × List ℕ)
+connection_at bs = do
+  n ← byte_at bs
+  if n.0 == 0 || nat_lt CONNECTIONS n.0 then None else Some n
 
--- eight bytes, little-endian, and the bytes after them
-unfoldable pub eight_at : List ℕ → Option (Field × List ℕ)
-eight_at bs = do
-  n ← number_at 8 (from_le_bytes w64) bs
-  Some (number n.0, n.1)
+-- a count of two bytes, at most `limit`, and as many bytes
+unfoldable pub counted_at : ℕ → List ℕ → Option (List ℕ × List ℕ)
+counted_at limit bs = do
+  count ← number_at 2 (from_le_bytes w16) bs
+  if nat_lt limit count.0 then None else bytes_at count.0 count.1
 
--- a GUID, its 16 bytes in the order of RFC 9562, and the bytes after them
-unfoldable pub guid_at : List ℕ → Option (Field × List ℕ)
-guid_at bs = do
-  n ← number_at 16 (from_be_bytes w128) bs
-  Some (number n.0, n.1)
+-- ---- fields
 
--- a text of at most 256 bytes, and the bytes after it
-unfoldable pub text_at : List ℕ → Option (Field × List ℕ)
-text_at bs = do
-  n ← number_at 2 (from_le_bytes w16) bs
-  if nat_lt 256 n.0 then None else so_many n.0 n.1
-
--- the bytes of a format, and the bytes after them
-unfoldable pub format_at : List ℕ → Option (Field × List ℕ)
-format_at bs = do
-  n ← number_at 2 (from_le_bytes w16) bs
-  so_many n.0 n.1
+-- what was read, made a field
+abbrev pub as_field : {A : Type 0} → (A → Field) → Option (A × List ℕ) → Option (Field × List ℕ)
+as_field make read = do
+  x ← read
+  Some (make x.0, x.1)
 
 -- a field of this kind, and the bytes after it
 abbrev pub read_field : Kind → List ℕ → Option (Field × List ℕ)
-read_field connection bs = connection_at bs
-read_field byte bs = byte_at bs
-read_field four bs = four_at bs
-read_field eight bs = eight_at bs
-read_field guid bs = guid_at bs
-read_field text bs = text_at bs
-read_field format bs = format_at bs
+read_field connection bs = as_field number (connection_at bs)
+read_field byte bs = as_field number (byte_at bs)
+read_field four_bytes bs = as_field number (number_at 4 (from_le_bytes w32) bs)
+read_field eight_bytes bs = as_field number (number_at 8 (from_le_bytes w64) bs)
+read_field guid bs = as_field number (number_at 16 (from_be_bytes w128) bs)
+read_field text bs = as_field bytes (counted_at MAX_TEXT bs)
+read_field format bs = as_field bytes (counted_at MAX_FORMAT bs)
 read_field rest bs = Some (bytes bs, [])
 
 -- fields of these kinds, which are all of the bytes
@@ -98,21 +76,7 @@ read_fields (k ∷ ks) bs = do
   others ← read_fields ks first.1
   Some (first.0 ∷ others)
 
--- the number that stands in a field
-abbrev pub number_of : Field → ℕ
-number_of (number n) = n
-number_of (bytes xs) = 0
-
--- fields of these kinds, a code of one byte, and the fields that the code asks for
-abbrev pub read_coded : List Kind → (ℕ → List Kind) → List ℕ → Option (List Field)
-read_coded [] kinds_of bs = do
-  code ← byte_at bs
-  others ← read_fields (kinds_of (number_of code.0)) code.1
-  Some (code.0 ∷ others)
-read_coded (k ∷ ks) kinds_of bs = do
-  first ← read_field k bs
-  others ← read_coded ks kinds_of first.1
-  Some (first.0 ∷ others)
+-- ---- the body of a frame
 
 -- the kinds of the fields behind a call's code
 abbrev pub call_kinds : ℕ → List Kind
@@ -122,48 +86,41 @@ call_kinds code = or_rest (listed code calls)
 abbrev pub device_kinds : ℕ → List Kind
 device_kinds code = or_rest (listed code device_events)
 
--- the fields behind the byte that says what an event is
-unfoldable pub read_event : ℕ → List ℕ → Option (List Field)
-read_event n bs =
-    if n == 1 then read_fields (connection ∷ four ∷ text ∷ []) bs
-    else if n == 3 then read_coded (connection ∷ four ∷ []) call_kinds bs
-    else if n == 4 then read_fields (four ∷ []) bs
-    else if n == 5 then read_coded [] device_kinds bs
+-- the kinds of the fields behind an event's kind, for the code of a call or of a device event
+abbrev pub event_kinds : ℕ → ℕ → Option (List Kind)
+event_kinds kind code =
+    if kind == KIND_OPEN then Some (connection ∷ four_bytes ∷ text ∷ [])
+    else if kind == KIND_CALL then Some (connection ∷ four_bytes ∷ byte ∷ call_kinds code)
+    else if kind == KIND_PERIOD then Some (four_bytes ∷ [])
+    else if kind == KIND_DEVICE then Some (byte ∷ device_kinds code)
     else None
 
--- a field, and what is read behind it
-abbrev pub behind : Field → Option (List Field) → Option (List Field)
-behind f read = do
-  others ← read
-  Some (f ∷ others)
+-- where a code is in a body: a call's behind the kind, the connection and the tag, a device event's behind the kind
+abbrev pub code_place : ℕ → ℕ
+code_place kind = if kind == KIND_CALL then 6 else 1
 
--- the fields of an event, which are all of the bytes
-unfoldable pub read_body : List ℕ → Option (List Field)
+-- the kinds of the fields behind a body's first byte, which is the event's kind
+abbrev pub body_kinds : List ℕ → Option (List Kind)
+body_kinds bs = event_kinds (slice_index bs 0) (slice_index bs (code_place (slice_index bs 0)))
+
+-- the fields of a body
+abbrev pub read_body : List ℕ → Option (List Field)
 read_body bs = do
-  first ← byte_at bs
-  behind first.0 (read_event (number_of first.0) first.1)
+  kinds ← body_kinds bs
+  read_fields (byte ∷ kinds) bs
 
--- a call of a listed code is never read as another
-abbrev pub CallIsOwn : Call → Type 0
-CallIsOwn (call.Other code tail) = listed code calls ≡ None
-CallIsOwn _ = Unit {0}
+-- ---- memory
 
--- a device event of a listed code is never read as another
-abbrev pub DeviceIsOwn : DeviceEvent → Type 0
-DeviceIsOwn (device.Other code tail) = listed code device_events ≡ None
-DeviceIsOwn _ = Unit {0}
+-- whether a field of this kind is kept on the heap: the frame alone bounds its length
+abbrev pub is_growable : Kind → Bool
+is_growable format = true
+is_growable rest = true
+is_growable _ = false
 
--- the fields of a call of this code, unless memory ran out
-abbrev pub GivesCall : ℕ → Result Call Fault → List ℕ → Type 0
-GivesCall code (Ok x) bs = (call_code x ≡ code) × CallIsOwn x × (read_fields (call_kinds code) bs ≡ Some (call_fields x))
-GivesCall code (Err f) bs = Fails f (read_fields (call_kinds code) bs)
+-- whether fields of these kinds take memory
+abbrev pub kinds_take_memory : List Kind → Bool
+kinds_take_memory ks = list_any is_growable ks
 
--- the fields of a device event of this code, unless memory ran out
-abbrev pub GivesDevice : ℕ → Result DeviceEvent Fault → List ℕ → Type 0
-GivesDevice code (Ok x) bs = (device_code x ≡ code) × DeviceIsOwn x × (read_fields (device_kinds code) bs ≡ Some (device_fields x))
-GivesDevice code (Err f) bs = Fails f (read_fields (device_kinds code) bs)
-
--- an event with these fields, unless memory ran out
-abbrev pub GivesEvent : Result Event Fault → Option (List Field) → Type 0
-GivesEvent (Ok e) read = CodeIsOwn e × (read ≡ Some (fields e))
-GivesEvent (Err f) read = Fails f read
+-- whether the event of a body takes memory
+abbrev pub takes_memory : List ℕ → Bool
+takes_memory bs = option_map_or kinds_take_memory (body_kinds bs) false

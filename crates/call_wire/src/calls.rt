@@ -2,49 +2,49 @@
 
 ghost use Rattle.std.specs.Prelude.{◌≡◌, None};
 ghost use Rattle.ca_model.specs.Spelling.{calls, listed};
-ghost use Rattle.call_wire.specs.Reading.{GivesCall};
+ghost use Rattle.call_wire.specs.Readers.{GivesCall, MayGiveCall};
 
-use crate::fault::Fault;
-use crate::fields::{byte, eight, end, format, four, guid};
+use crate::fault::{Fault, NoField};
+use crate::fields::{expect_end, take_format, take_guid, take_u8, take_u32, take_u64};
 use ca_base::{Bytes, ClientNo, EndpointNo};
 use ca_model::Call;
 use std::alloc::Global;
 
 /// The call of this code, all of the bytes.
-pub fn call(alloc: Global, code: u8, input: &[u8]) -> Result<Call, Fault>
-    ensures { GivesCall code result input.now }
+pub fn read_call(alloc: Global, code: u8, input: &[u8]) -> Result<Call, Fault>
+    ensures { MayGiveCall code result input.now }
 {
     match code {
-        5 => activate(input),
-        16 => initialize(alloc, input),
-        23 => start(input),
-        32 => get_buffer(input),
-        33 => release_buffer(alloc, input),
-        _ => other(alloc, code, input),
+        5 => Ok(read_activate(input)?),
+        16 => read_initialize(alloc, input),
+        23 => Ok(read_start(input)?),
+        32 => Ok(read_get_buffer(input)?),
+        33 => read_release_buffer(alloc, input),
+        _ => read_other_call(alloc, code, input),
     }
 }
 
-fn activate(input: &[u8]) -> Result<Call, Fault>
+fn read_activate(input: &[u8]) -> Result<Call, NoField>
     ensures { GivesCall 5 result input.now }
 {
-    let (endpoint, rest) = four(input)?;
-    let (role, rest) = byte(rest)?;
-    end(rest)?;
+    let (endpoint, rest) = take_u32(input)?;
+    let (role, rest) = take_u8(rest)?;
+    expect_end(rest)?;
     let endpoint = EndpointNo(endpoint);
     Ok(Call::Activate { endpoint, role })
 }
 
-fn initialize(alloc: Global, input: &[u8]) -> Result<Call, Fault>
-    ensures { GivesCall 16 result input.now }
+fn read_initialize(alloc: Global, input: &[u8]) -> Result<Call, Fault>
+    ensures { MayGiveCall 16 result input.now }
 {
-    let (client, rest) = eight(input)?;
-    let (share, rest) = four(rest)?;
-    let (flags, rest) = four(rest)?;
-    let (duration, rest) = eight(rest)?;
-    let (period, rest) = eight(rest)?;
-    let (format, rest) = format(rest)?;
-    let (session, rest) = guid(rest)?;
-    end(rest)?;
+    let (client, rest) = take_u64(input)?;
+    let (share, rest) = take_u32(rest)?;
+    let (flags, rest) = take_u32(rest)?;
+    let (duration, rest) = take_u64(rest)?;
+    let (period, rest) = take_u64(rest)?;
+    let (format, rest) = take_format(rest)?;
+    let (session, rest) = take_guid(rest)?;
+    expect_end(rest)?;
     Ok(Call::Initialize {
         client: ClientNo(client),
         share,
@@ -56,31 +56,31 @@ fn initialize(alloc: Global, input: &[u8]) -> Result<Call, Fault>
     })
 }
 
-fn start(input: &[u8]) -> Result<Call, Fault>
+fn read_start(input: &[u8]) -> Result<Call, NoField>
     ensures { GivesCall 23 result input.now }
 {
-    let (client, rest) = eight(input)?;
-    end(rest)?;
+    let (client, rest) = take_u64(input)?;
+    expect_end(rest)?;
     let client = ClientNo(client);
     Ok(Call::Start { client })
 }
 
-fn get_buffer(input: &[u8]) -> Result<Call, Fault>
+fn read_get_buffer(input: &[u8]) -> Result<Call, NoField>
     ensures { GivesCall 32 result input.now }
 {
-    let (client, rest) = eight(input)?;
-    let (frames, rest) = four(rest)?;
-    end(rest)?;
+    let (client, rest) = take_u64(input)?;
+    let (frames, rest) = take_u32(rest)?;
+    expect_end(rest)?;
     let client = ClientNo(client);
     Ok(Call::GetBuffer { client, frames })
 }
 
-fn release_buffer(alloc: Global, input: &[u8]) -> Result<Call, Fault>
-    ensures { GivesCall 33 result input.now }
+fn read_release_buffer(alloc: Global, input: &[u8]) -> Result<Call, Fault>
+    ensures { MayGiveCall 33 result input.now }
 {
-    let (client, rest) = eight(input)?;
-    let (frames, rest) = four(rest)?;
-    let (flags, rest) = four(rest)?;
+    let (client, rest) = take_u64(input)?;
+    let (frames, rest) = take_u32(rest)?;
+    let (flags, rest) = take_u32(rest)?;
     Ok(Call::ReleaseBuffer {
         client: ClientNo(client),
         frames,
@@ -89,9 +89,9 @@ fn release_buffer(alloc: Global, input: &[u8]) -> Result<Call, Fault>
     })
 }
 
-fn other(alloc: Global, code: u8, input: &[u8]) -> Result<Call, Fault>
+fn read_other_call(alloc: Global, code: u8, input: &[u8]) -> Result<Call, Fault>
     requires { listed code calls ≡ None }
-    ensures { GivesCall code result input.now }
+    ensures { MayGiveCall code result input.now }
 {
     let rest = Bytes::from_slice(alloc, input)?;
     Ok(Call::Other { code, rest })

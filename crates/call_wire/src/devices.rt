@@ -2,32 +2,32 @@
 
 ghost use Rattle.std.specs.Prelude.{◌≡◌, None};
 ghost use Rattle.ca_model.specs.Spelling.{device_events, listed};
-ghost use Rattle.call_wire.specs.Reading.{GivesDevice};
+ghost use Rattle.call_wire.specs.Readers.{MayGiveDevice};
 
 use crate::fault::Fault;
-use crate::fields::{byte, end, format, four, text};
+use crate::fields::{expect_end, take_format, take_text, take_u8, take_u32};
 use ca_base::{Bytes, EndpointNo, Text};
 use ca_model::DeviceEvent;
 use std::alloc::Global;
 
 /// The device event of this code, all of the bytes.
-pub fn device(alloc: Global, code: u8, input: &[u8]) -> Result<DeviceEvent, Fault>
-    ensures { GivesDevice code result input.now }
+pub fn read_device(alloc: Global, code: u8, input: &[u8]) -> Result<DeviceEvent, Fault>
+    ensures { MayGiveDevice code result input.now }
 {
     match code {
-        1 => add(alloc, input),
-        _ => other(alloc, code, input),
+        1 => read_add(alloc, input),
+        _ => read_other_device(alloc, code, input),
     }
 }
 
-fn add(alloc: Global, input: &[u8]) -> Result<DeviceEvent, Fault>
-    ensures { GivesDevice 1 result input.now }
+fn read_add(alloc: Global, input: &[u8]) -> Result<DeviceEvent, Fault>
+    ensures { MayGiveDevice 1 result input.now }
 {
-    let (endpoint, rest) = four(input)?;
-    let (flow, rest) = byte(rest)?;
-    let (format, rest) = format(rest)?;
-    let (name, rest) = text(rest)?;
-    end(rest)?;
+    let (endpoint, rest) = take_u32(input)?;
+    let (flow, rest) = take_u8(rest)?;
+    let (format, rest) = take_format(rest)?;
+    let (name, rest) = take_text(rest)?;
+    expect_end(rest)?;
     let name = Text::new(name);
     Ok(DeviceEvent::Add {
         endpoint: EndpointNo(endpoint),
@@ -37,9 +37,9 @@ fn add(alloc: Global, input: &[u8]) -> Result<DeviceEvent, Fault>
     })
 }
 
-fn other(alloc: Global, code: u8, input: &[u8]) -> Result<DeviceEvent, Fault>
+fn read_other_device(alloc: Global, code: u8, input: &[u8]) -> Result<DeviceEvent, Fault>
     requires { listed code device_events ≡ None }
-    ensures { GivesDevice code result input.now }
+    ensures { MayGiveDevice code result input.now }
 {
     let rest = Bytes::from_slice(alloc, input)?;
     Ok(DeviceEvent::Other { code, rest })

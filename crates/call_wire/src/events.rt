@@ -1,70 +1,68 @@
 //! Events, read from all of the bytes of a frame's body.
 
-ghost use Rattle.std.specs.Prelude.{◌≡◌};
-ghost use Rattle.ca_model.specs.Fields.Field.{number};
-ghost use Rattle.call_wire.specs.Reading.{GivesEvent, behind, read_event, read_body};
+ghost use Rattle.std.specs.Prelude.{◌≡◌, ◌∷◌};
+ghost use Rattle.call_wire.specs.Readers.{GivesEvent, MayGiveEvent};
 
-use crate::calls::call;
-use crate::devices::device;
-use crate::fault::Fault;
-use crate::fields::{byte, connection, end, four, text};
+use crate::calls::read_call;
+use crate::devices::read_device;
+use crate::fault::{Fault, NoField};
+use crate::fields::{expect_end, take_connection, take_text, take_u8, take_u32};
+use ca_base::values::{KIND_CALL, KIND_DEVICE, KIND_OPEN, KIND_PERIOD};
 use ca_base::{EndpointNo, Text};
 use ca_model::Event;
 use std::alloc::Global;
 
-/// The event that these bytes spell, all of the bytes.
-#[tactic(auto, unfolding(crate::specs::Reading::read_body, crate::specs::Reading::read_event))]
-pub fn event(alloc: Global, input: &[u8]) -> Result<Event, Fault>
-    ensures { GivesEvent result (read_body input.now) }
+/// The event that the body spells, all of its bytes.
+pub fn read_event(alloc: Global, body: &[u8]) -> Result<Event, Fault>
+    ensures { MayGiveEvent result body.now }
 {
-    let (kind, rest) = byte(input)?;
-    match kind {
-        1 => open(rest),
-        3 => called(alloc, rest),
-        4 => period(rest),
-        5 => of_device(alloc, rest),
+    match body {
+        [KIND_OPEN, rest @ ..] => Ok(read_open_event(rest)?),
+        [KIND_CALL, rest @ ..] => read_call_event(alloc, rest),
+        [KIND_PERIOD, rest @ ..] => Ok(read_period_event(rest)?),
+        [KIND_DEVICE, rest @ ..] => read_device_event(alloc, rest),
         _ => Err(Fault::Malformed),
     }
 }
 
-#[tactic(auto, unfolding(crate::specs::Reading::read_event))]
-fn open(input: &[u8]) -> Result<Event, Fault>
-    ensures { GivesEvent result (behind (number 1) (read_event 1 input.now)) }
+#[tactic(auto, unfolding(crate::specs::Reading::byte_at))]
+fn read_open_event(input: &[u8]) -> Result<Event, NoField>
+    ensures { GivesEvent result (KIND_OPEN ∷ input.now) }
 {
-    let (conn, rest) = connection(input)?;
-    let (pid, rest) = four(rest)?;
-    let (name, rest) = text(rest)?;
-    end(rest)?;
+    let (conn, rest) = take_connection(input)?;
+    let (pid, rest) = take_u32(rest)?;
+    let (name, rest) = take_text(rest)?;
+    expect_end(rest)?;
     let name = Text::new(name);
     Ok(Event::Open { conn, pid, name })
 }
 
-#[tactic(auto, unfolding(crate::specs::Reading::read_event))]
-fn called(alloc: Global, input: &[u8]) -> Result<Event, Fault>
-    ensures { GivesEvent result (behind (number 3) (read_event 3 input.now)) }
+#[tactic(auto, unfolding(crate::specs::Reading::byte_at))]
+fn read_call_event(alloc: Global, input: &[u8]) -> Result<Event, Fault>
+    ensures { MayGiveEvent result (KIND_CALL ∷ input.now) }
 {
-    let (conn, rest) = connection(input)?;
-    let (tag, rest) = four(rest)?;
-    let (code, rest) = byte(rest)?;
-    let call = call(alloc, code, rest)?;
+    let (conn, rest) = take_connection(input)?;
+    let (tag, rest) = take_u32(rest)?;
+    let (code, rest) = take_u8(rest)?;
+    let call = read_call(alloc, code, rest)?;
     Ok(Event::Call { conn, tag, call })
 }
 
-#[tactic(auto, unfolding(crate::specs::Reading::read_event))]
-fn period(input: &[u8]) -> Result<Event, Fault>
-    ensures { GivesEvent result (behind (number 4) (read_event 4 input.now)) }
+#[tactic(auto, unfolding(crate::specs::Reading::byte_at))]
+fn read_period_event(input: &[u8]) -> Result<Event, NoField>
+    ensures { GivesEvent result (KIND_PERIOD ∷ input.now) }
 {
-    let (endpoint, rest) = four(input)?;
-    end(rest)?;
+    let (endpoint, rest) = take_u32(input)?;
+    expect_end(rest)?;
     let endpoint = EndpointNo(endpoint);
     Ok(Event::Period { endpoint })
 }
 
-#[tactic(auto, unfolding(crate::specs::Reading::read_event))]
-fn of_device(alloc: Global, input: &[u8]) -> Result<Event, Fault>
-    ensures { GivesEvent result (behind (number 5) (read_event 5 input.now)) }
+#[tactic(auto, unfolding(crate::specs::Reading::byte_at))]
+fn read_device_event(alloc: Global, input: &[u8]) -> Result<Event, Fault>
+    ensures { MayGiveEvent result (KIND_DEVICE ∷ input.now) }
 {
-    let (code, rest) = byte(input)?;
-    let event = device(alloc, code, rest)?;
+    let (code, rest) = take_u8(input)?;
+    let event = read_device(alloc, code, rest)?;
     Ok(Event::Device { event })
 }

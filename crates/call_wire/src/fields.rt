@@ -1,33 +1,29 @@
-//! Fields at the front of some bytes.
+//! Fields at the front of some bytes: each reader gives the field and the bytes after it.
 
 ghost use Rattle.std.specs.Prelude.{◌≡◌, ◌≤◌, [], length, IfOk};
-ghost use Rattle.std.specs.Int.{w16, from_le_bytes};
-ghost use Rattle.ca_model.specs.Fields.Field.{number, bytes};
-ghost use Rattle.call_wire.specs.Reading.{Gives, number_at, so_many, connection_at, byte_at, four_at, eight_at, guid_at, text_at, format_at, read_fields};
+ghost use Rattle.std.specs.Int.{w16, w32, w64, w128, from_le_bytes, from_be_bytes};
+ghost use Rattle.call_wire.specs.Reading.{number_at, byte_at, bytes_at, connection_at, counted_at, read_fields};
+ghost use Rattle.call_wire.specs.Readers.{Gives};
 
 use crate::fault::NoField;
-use ca_base::{ConnNo, Guid, Text};
+use ca_base::limits::{CONNECTIONS, MAX_TEXT};
+use ca_base::{ConnNo, Guid};
 
-/// A connection's number, from 1 to 32.
-#[tactic(auto, unfolding(crate::specs::Reading::connection_at))]
-pub fn connection(input: &[u8]) -> Result<(ConnNo, &[u8]), NoField>
-    ensures { Gives (λ x. (number x.0.0, x.1.now)) result (connection_at input.now) }
+/// The longest format, in bytes: its count has two bytes.
+pub const MAX_FORMAT: usize = 65_535;
+
+/// `N` bytes.
+#[tactic(auto, unfolding(crate::specs::Reading::bytes_at))]
+fn take_array<const N: usize>(input: &[u8]) -> Result<(&[u8; N], &[u8]), NoField>
+    ensures { Gives (λ x. (x.0.now, x.1.now)) result (bytes_at N input.now) }
 {
-    match input {
-        [] => Err(NoField),
-        [number, rest @ ..] => {
-            if *number == 0 || *number > 32 {
-                return Err(NoField);
-            }
-            Ok((ConnNo(*number), rest))
-        }
-    }
+    input.split_first_chunk::<N>().ok_or(NoField)
 }
 
 /// One byte.
 #[tactic(auto, unfolding(crate::specs::Reading::byte_at))]
-pub fn byte(input: &[u8]) -> Result<(u8, &[u8]), NoField>
-    ensures { Gives (λ x. (number x.0, x.1.now)) result (byte_at input.now) }
+pub fn take_u8(input: &[u8]) -> Result<(u8, &[u8]), NoField>
+    ensures { Gives (λ x. (x.0, x.1.now)) result (byte_at input.now) }
 {
     match input {
         [] => Err(NoField),
@@ -35,63 +31,58 @@ pub fn byte(input: &[u8]) -> Result<(u8, &[u8]), NoField>
     }
 }
 
-fn two(input: &[u8]) -> Result<(u16, &[u8]), NoField>
+/// A number of two bytes, little-endian.
+#[tactic(auto, unfolding(crate::specs::Reading::number_at))]
+fn take_u16(input: &[u8]) -> Result<(u16, &[u8]), NoField>
     ensures { Gives (λ x. (x.0, x.1.now)) result (number_at 2 (from_le_bytes w16) input.now) }
 {
-    if input.len() < 2 {
-        return Err(NoField);
-    }
-    let (front, rest) = input.split_at(2);
-    Ok((u16::from_le_bytes([front[0], front[1]]), rest))
+    let (bytes, rest) = take_array(input)?;
+    Ok((u16::from_le_bytes(*bytes), rest))
 }
 
-/// Four bytes.
-#[tactic(auto, unfolding(crate::specs::Reading::four_at))]
-pub fn four(input: &[u8]) -> Result<(u32, &[u8]), NoField>
-    ensures { Gives (λ x. (number x.0, x.1.now)) result (four_at input.now) }
+/// A number of four bytes, little-endian.
+#[tactic(auto, unfolding(crate::specs::Reading::number_at))]
+pub fn take_u32(input: &[u8]) -> Result<(u32, &[u8]), NoField>
+    ensures { Gives (λ x. (x.0, x.1.now)) result (number_at 4 (from_le_bytes w32) input.now) }
 {
-    if input.len() < 4 {
-        return Err(NoField);
-    }
-    let (front, rest) = input.split_at(4);
-    let number = u32::from_le_bytes([front[0], front[1], front[2], front[3]]);
-    Ok((number, rest))
+    let (bytes, rest) = take_array(input)?;
+    Ok((u32::from_le_bytes(*bytes), rest))
 }
 
-/// Eight bytes.
-#[tactic(auto, unfolding(crate::specs::Reading::eight_at))]
-pub fn eight(input: &[u8]) -> Result<(u64, &[u8]), NoField>
-    ensures { Gives (λ x. (number x.0, x.1.now)) result (eight_at input.now) }
+/// A number of eight bytes, little-endian.
+#[tactic(auto, unfolding(crate::specs::Reading::number_at))]
+pub fn take_u64(input: &[u8]) -> Result<(u64, &[u8]), NoField>
+    ensures { Gives (λ x. (x.0, x.1.now)) result (number_at 8 (from_le_bytes w64) input.now) }
 {
-    if input.len() < 8 {
-        return Err(NoField);
-    }
-    let (front, rest) = input.split_at(8);
-    let number = u64::from_le_bytes([
-        front[0], front[1], front[2], front[3], front[4], front[5], front[6], front[7],
-    ]);
-    Ok((number, rest))
+    let (bytes, rest) = take_array(input)?;
+    Ok((u64::from_le_bytes(*bytes), rest))
 }
 
-/// A GUID, its bytes in the order of RFC 9562.
-#[tactic(auto, unfolding(crate::specs::Reading::guid_at))]
-pub fn guid(input: &[u8]) -> Result<(Guid, &[u8]), NoField>
-    ensures { Gives (λ x. (number x.0.0, x.1.now)) result (guid_at input.now) }
+/// A GUID, its 16 bytes in the order of RFC 9562.
+#[tactic(auto, unfolding(crate::specs::Reading::number_at))]
+pub fn take_guid(input: &[u8]) -> Result<(Guid, &[u8]), NoField>
+    ensures { Gives (λ x. (x.0.0, x.1.now)) result (number_at 16 (from_be_bytes w128) input.now) }
 {
-    if input.len() < 16 {
-        return Err(NoField);
-    }
-    let (front, rest) = input.split_at(16);
-    let number = u128::from_be_bytes([
-        front[0], front[1], front[2], front[3], front[4], front[5], front[6], front[7], front[8],
-        front[9], front[10], front[11], front[12], front[13], front[14], front[15],
-    ]);
-    Ok((Guid(number), rest))
+    let (bytes, rest) = take_array(input)?;
+    Ok((Guid(u128::from_be_bytes(*bytes)), rest))
 }
 
-/// So many bytes.
-fn so_many(count: usize, input: &[u8]) -> Result<(&[u8], &[u8]), NoField>
-    ensures gives { Gives (λ x. (bytes x.0.now, x.1.now)) result (so_many count input.now) }
+/// A connection's number, from 1 to `CONNECTIONS`.
+#[tactic(auto, unfolding(crate::specs::Reading::connection_at))]
+pub fn take_connection(input: &[u8]) -> Result<(ConnNo, &[u8]), NoField>
+    ensures { Gives (λ x. (x.0.0, x.1.now)) result (connection_at input.now) }
+{
+    let (number, rest) = take_u8(input)?;
+    if number == 0 || number > CONNECTIONS {
+        return Err(NoField);
+    }
+    Ok((ConnNo(number), rest))
+}
+
+/// `count` bytes.
+#[tactic(auto, unfolding(crate::specs::Reading::bytes_at))]
+fn take_bytes(count: usize, input: &[u8]) -> Result<(&[u8], &[u8]), NoField>
+    ensures gives { Gives (λ x. (x.0.now, x.1.now)) result (bytes_at count input.now) }
     ensures count { IfOk result (λ x. length x.0.now ≡ count) }
 {
     if input.len() < count {
@@ -100,31 +91,37 @@ fn so_many(count: usize, input: &[u8]) -> Result<(&[u8], &[u8]), NoField>
     Ok(input.split_at(count))
 }
 
-/// The bytes of a text, at most 256.
-#[tactic(auto, unfolding(crate::specs::Reading::text_at))]
-pub fn text(input: &[u8]) -> Result<(&[u8], &[u8]), NoField>
-    ensures gives { Gives (λ x. (bytes x.0.now, x.1.now)) result (text_at input.now) }
-    ensures within { IfOk result (λ x. length x.0.now ≤ 256) }
+/// A count of two bytes, at most `limit`, and as many bytes.
+#[tactic(auto, unfolding(crate::specs::Reading::counted_at))]
+fn take_counted(limit: usize, input: &[u8]) -> Result<(&[u8], &[u8]), NoField>
+    ensures gives { Gives (λ x. (x.0.now, x.1.now)) result (counted_at limit input.now) }
+    ensures within { IfOk result (λ x. length x.0.now ≤ limit) }
 {
-    let (count, rest) = two(input)?;
+    let (count, rest) = take_u16(input)?;
     let count = usize::from(count);
-    if count > Text::MAX {
+    if count > limit {
         return Err(NoField);
     }
-    so_many(count, rest)
+    take_bytes(count, rest)
+}
+
+/// The bytes of a text, at most `MAX_TEXT`.
+pub fn take_text(input: &[u8]) -> Result<(&[u8], &[u8]), NoField>
+    ensures gives { Gives (λ x. (x.0.now, x.1.now)) result (counted_at MAX_TEXT input.now) }
+    ensures within { IfOk result (λ x. length x.0.now ≤ MAX_TEXT) }
+{
+    take_counted(MAX_TEXT, input)
 }
 
 /// The bytes of a format.
-#[tactic(auto, unfolding(crate::specs::Reading::format_at))]
-pub fn format(input: &[u8]) -> Result<(&[u8], &[u8]), NoField>
-    ensures { Gives (λ x. (bytes x.0.now, x.1.now)) result (format_at input.now) }
+pub fn take_format(input: &[u8]) -> Result<(&[u8], &[u8]), NoField>
+    ensures { Gives (λ x. (x.0.now, x.1.now)) result (counted_at MAX_FORMAT input.now) }
 {
-    let (count, rest) = two(input)?;
-    so_many(usize::from(count), rest)
+    take_counted(MAX_FORMAT, input)
 }
 
-/// No bytes.
-pub fn end(input: &[u8]) -> Result<(), NoField>
+/// No bytes are left.
+pub fn expect_end(input: &[u8]) -> Result<(), NoField>
     ensures { Gives (λ _. []) result (read_fields [] input.now) }
 {
     if !input.is_empty() {

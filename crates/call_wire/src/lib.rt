@@ -14,7 +14,7 @@ mod writing;
 pub use ca_model::{Call, DeviceEvent, Event, Reply};
 pub use desk::Desk;
 pub use reading::{Step, next_event};
-pub use writing::write_reply;
+pub use writing::{REPLY_HEAD, write_reply};
 
 #[cfg(test)]
 mod tests;

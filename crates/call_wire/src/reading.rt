@@ -1,64 +1,48 @@
 //! The next event of a file.
 
-ghost use Rattle.std.specs.Prelude.{◌≡◌, ◌≤◌, length, MatchResult};
-ghost use Rattle.ca_model.specs.Spelling.{stated_length};
+ghost use Rattle.std.specs.Prelude.{MatchResult};
 
-use crate::events::event;
+use crate::events::read_event;
 use crate::fault::Fault;
 use ca_base::NoMemory;
+use ca_base::limits::{LENGTH_SIZE, LONGEST_BODY};
 use ca_model::Event;
 use std::alloc::Global;
 
-/// What stands at the front of some bytes.
+/// What is at the front of some bytes.
 #[derive(Drop)]
 pub enum Step {
-    /// An event, and how many bytes its spelling has.
+    /// An event, and how many bytes its frame has.
     Event { event: Event, used: usize },
-    /// Fewer bytes than a whole frame of lawful length.
+    /// An incomplete prefix of a frame: a valid length and fewer bytes than it says, or not even a length.
     NeedMore,
-    /// An unlawful length, or a whole frame that spells no event.
+    /// An invalid length, or a whole frame that spells no event.
     Malformed,
 }
 
-ghost use Rattle.call_wire.specs.Next.{IsNext, IsWhole};
+ghost use Rattle.call_wire.specs.Next.{IsNext, IsOutOfMemory};
 
-/// The bytes of a frame's length.
-const HEAD: usize = 4;
-
-/// The longest body of a frame, in bytes.
-const LONGEST: usize = 4_194_304;
-
-/// The length of the body that a frame begins with.
-fn body_length(bytes: &[u8]) -> usize
-    requires { 4 ≤ length bytes.now }
-    ensures { result ≡ stated_length bytes.now }
-{
-    u32::from_le_bytes([bytes[0], bytes[1], bytes[2], bytes[3]]) as usize
-}
-
-/// Reads the event at the front of the bytes, and looks at no byte behind its frame. Memory is taken for what the
-/// event holds, and `NoMemory` comes only where a whole frame of lawful length stands at the front.
+/// Reads the event at the front of the bytes, and looks at no byte behind its frame. Memory is taken for an event's
+/// format and for the rest of its bytes alone: `NoMemory` comes only for a whole event that has one of these.
 pub fn next_event(alloc: Global, bytes: &[u8]) -> Result<Step, NoMemory>
-    ensures { MatchResult result (λ step. IsNext step bytes.now) (λ _. IsWhole bytes.now) }
+    ensures { MatchResult result (λ step. IsNext step bytes.now) (λ _. IsOutOfMemory bytes.now) }
 {
-    if bytes.len() < HEAD {
+    let Some((length, rest)) = bytes.split_first_chunk::<LENGTH_SIZE>() else {
         return Ok(Step::NeedMore);
-    }
-    let length = body_length(bytes);
-    if length == 0 || length > LONGEST {
+    };
+    let length = u32::from_le_bytes(*length) as usize;
+    if length == 0 || length > LONGEST_BODY {
         return Ok(Step::Malformed);
     }
-    let (_, rest) = bytes.split_at(HEAD);
     if rest.len() < length {
         return Ok(Step::NeedMore);
     }
-    let (body, _) = rest.split_at(length);
-    match event(alloc, body) {
+    match read_event(alloc, &rest[..length]) {
         Ok(event) => Ok(Step::Event {
             event,
-            used: HEAD + length,
+            used: LENGTH_SIZE + length,
         }),
-        Err(Fault::Memory) => Err(NoMemory),
+        Err(Fault::OutOfMemory) => Err(NoMemory),
         Err(Fault::Malformed) => Ok(Step::Malformed),
     }
 }

@@ -20,7 +20,7 @@ const INITIALIZE: [u8; 79] = [
 fn body_is_malformed(rt: HostRuntime, body: &[u8]) -> Result<bool, Fail> {
     let length = u32::try_from(body.len())
         .ok()
-        .ok_or("a body of lawful length")?;
+        .ok_or("a body whose length fits")?;
     let mut frame = Vec::new(rt.alloc());
     frame.extend_from_slice(&length.to_le_bytes())?;
     frame.extend_from_slice(body)?;
@@ -87,7 +87,7 @@ fn a_code_that_is_not_listed_is_read(rt: HostRuntime) -> Result<(), Fail> {
 }
 
 #[test]
-fn a_cut_frame_needs_more(rt: HostRuntime) {
+fn an_incomplete_prefix_needs_more(rt: HostRuntime) {
     for len in 0..PERIOD.len() {
         let step = next_event(rt.alloc(), &PERIOD[..len]);
         assert!(rt; matches!(step, Ok(Step::NeedMore)), "at {len}");
@@ -97,7 +97,7 @@ fn a_cut_frame_needs_more(rt: HostRuntime) {
 }
 
 #[test]
-fn an_unlawful_length_is_malformed(rt: HostRuntime) {
+fn an_invalid_length_is_malformed(rt: HostRuntime) {
     let nothing = next_event(rt.alloc(), &[0, 0, 0, 0]);
     assert!(rt; matches!(nothing, Ok(Step::Malformed)));
     let too_long = next_event(rt.alloc(), &[1, 0, 64, 0]);

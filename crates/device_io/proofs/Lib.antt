@@ -1,3 +1,4 @@
-pub mod HeldLaws
+pub mod DeviceLogLaws
 pub mod Places
 pub mod Limits
+pub mod OpenFiles

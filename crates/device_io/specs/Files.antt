@@ -1,12 +1,55 @@
--- Devices over files, and the names of the files. This project's own.
-use Rattle.std.specs.Prelude.{ℕ, List, ◌++◌, codes}
+-- Devices over files: the names of the files, and the files that are open. This project's own.
+use Rattle.std.specs.Prelude.{◌≡◌, ℕ, ◌==◌, Bool, List, [], ◌∷◌, ◌++◌, codes, take, Option, MatchOption, ◌⊎◌}
+use Rattle.std.specs.List.{position, slice_set, slice_index_or}
 use Rattle.std.specs.Fmt.{decimal}
+use Rattle.std.specs.Io.KnownBytes.{Keeps, Appends, Consumes, IsAtEnd}
 
 -- FOLDER/endpoint-N.pcm
 abbrev pub name_in : List ℕ → ℕ → List ℕ
 name_in folder e = folder ++ (codes "/endpoint-" ++ (decimal e ++ codes ".pcm"))
 
--- what is known of devices over files: their folder, and how many of their calls have failed
+-- a file that was opened for an endpoint, with its bytes, if they are specified
+pub record OpenFile : Type 0 where
+  pub endpoint : ℕ
+  pub bytes : Option (List ℕ)
+
+-- the folder, the files that are appended to with what they hold, the files that are read with what they have left, and
+-- how many calls have failed
 pub record FilesState : Type 0 where
   pub folder : List ℕ
+  pub appended : List OpenFile
+  pub read : List OpenFile
   pub faults : ℕ
+
+-- devices over a folder of which no file is open
+abbrev pub new_files : List ℕ → FilesState
+new_files folder = record { folder = folder; appended = []; read = []; faults = 0 }
+
+-- whether a file is open for an endpoint
+abbrev pub is_open_for : ℕ → OpenFile → Bool
+is_open_for e file = e == file.endpoint
+
+-- how a call moves the bytes of a file: from those before it to those after it
+abbrev pub Moves : Type 1
+Moves = Option (List ℕ) → Option (List ℕ) → Type 0
+
+-- what a file that is appended to holds grew by a piece
+abbrev pub AppendsPiece : List ℕ → Moves
+AppendsPiece piece old new = Appends old new piece
+
+-- what a file that is read has left lost the first n bytes of a buffer, and n is 0 only at its end
+abbrev pub GivesFront : ℕ → List ℕ → Moves
+GivesFront n buf old new = Consumes old new (take n buf) × (n ≡ 0 → IsAtEnd new)
+
+-- the open files after a call that moved the bytes of an endpoint's file: the first one of that endpoint, or, if it had
+-- none, a new one at the end
+pub record MovesAt (moves : Moves) (e : ℕ) (old new : List OpenFile) : Type 0 where
+  pub file : OpenFile
+  pub endpoint : file.endpoint ≡ e
+  pub files : MatchOption (position (is_open_for e) old)
+      (new ≡ old ++ file ∷ [])
+      (λ i. (new ≡ slice_set old i file) × moves (slice_index_or old i file).bytes file.bytes)
+
+-- the open files after a call that failed: an endpoint's file may have been opened in it
+abbrev pub StaysAt : ℕ → List OpenFile → List OpenFile → Type 0
+StaysAt e old new = (new ≡ old) ⊎ MovesAt Keeps e old new

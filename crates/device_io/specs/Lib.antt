@@ -1,4 +1,5 @@
-pub mod Held
-pub mod Lines
+pub mod DeviceLog
+pub mod MemEndpoints
 pub mod Memory
 pub mod Files
+pub mod KeptFiles

@@ -1,100 +1,99 @@
 //! Devices that are files of one folder.
 
-ghost use Rattle.std.specs.Prelude.{◌≡◌, ◌<◌, ◌≤◌, length, None, IfOk, IfSome, OnErr, vec_len, string_bytes};
-ghost use Rattle.device_io.specs.Files.{name_in};
+ghost use Rattle.std.specs.Prelude.{◌≡◌, ◌<◌, ◌≤◌, length, take, true, None, Some, string_bytes};
+ghost use Rattle.std.specs.Prelude.{IfOk, OnErr, IfSome, IfNone, MatchOption};
+ghost use Rattle.std.specs.List.{position};
+ghost use Rattle.std.specs.Fs.{new_options, with_append, with_create, with_read};
 ghost use Rattle.ca_base.specs.Faults.{Counts};
+ghost use Rattle.device_io.specs.Files.{name_in, new_files, AppendsPiece, GivesFront, MovesAt, StaysAt};
+ghost use Rattle.device_io.specs.KeptFiles.{is_kept_for, OpensFor};
 
 use crate::Devices;
-use ca_base::{EndpointNo, Failed, NoMemory, read_once, write_once};
+use crate::kept::{KeptFile, keep_open, place_of};
+use ca_base::{EndpointNo, Failed, Faults, NoMemory, read_once, write_once};
 use std::alloc::Global;
-use std::fs::{File, OpenOptions};
+use std::fs::OpenOptions;
 use std::marker::Model;
 use std::rt::Files;
 
-/// A file that an endpoint uses.
+/// The files `NAME/endpoint-N.pcm`.
 #[derive(Drop)]
-struct Used<F: Drop> {
-    endpoint: EndpointNo,
-    file: F,
-}
-
-/// Devices over the files `FOLDER/endpoint-N.pcm`. A write appends to the file of its endpoint, which is made where it
-/// is missing. The reads of an endpoint go through its file once, from the front. A file is opened at the first use of
-/// its endpoint and then kept open; the folder isn't looked at before.
-#[derive(Drop)]
-pub struct FileDevices<R: Files + Drop> {
+struct Folder<R: Files + Drop> {
     rt: R,
     alloc: Global,
-    folder: String,
-    appended: Vec<Used<R::File>>,
-    read: Vec<Used<R::File>>,
-    faults: u64,
+    name: String,
+}
+
+/// Devices over the files `FOLDER/endpoint-N.pcm`. A write appends to the file of its endpoint, which is made if it is
+/// missing. The reads of an endpoint go through its file once, from the front. A file is opened at the first use of its
+/// endpoint and then kept open; the folder isn't looked at before.
+#[derive(Drop)]
+pub struct FileDevices<R: Files + Drop> {
+    folder: Folder<R>,
+    appended: Vec<KeptFile<R::File>>,
+    read: Vec<KeptFile<R::File>>,
+    faults: Faults,
 }
 
 impl<R: Files + Drop> Model for FileDevices<R> {
     ghost use Rattle.std.specs.Prelude.{string_bytes};
     ghost use Rattle.device_io.specs.Files.{FilesState};
+    ghost use Rattle.device_io.specs.KeptFiles.{open_files};
 
     ghost Value = { FilesState };
 
-    ghost view = { λ d. record { folder = string_bytes d.folder; faults = d.faults } };
+    ghost view = { λ d. record {
+      folder = string_bytes d.folder.name;
+      appended = open_files R.File.contents d.appended.items;
+      read = open_files R.File.remaining d.read.items;
+      faults = d.faults;
+    } };
 }
 
 impl<R: Files + Drop> FileDevices<R> {
     /// Devices over the files of this folder, of which none is opened yet.
     pub fn new(rt: R, alloc: Global, folder: &str) -> Result<FileDevices<R>, NoMemory>
-        ensures { IfOk result (λ d. d ≡ record { folder = folder.now; faults = 0 }) }
+        ensures { IfOk result (λ d. d ≡ new_files folder.now) }
     {
-        let Ok(folder) = String::from_str(alloc, folder) else {
-            return Err(NoMemory);
-        };
+        let name = String::from_str(alloc, folder)?;
         Ok(FileDevices {
-            rt,
-            alloc,
-            folder,
+            folder: Folder { rt, alloc, name },
             appended: Vec::new(alloc),
             read: Vec::new(alloc),
-            faults: 0,
+            faults: Faults::new(),
         })
     }
 
-    /// How many calls have failed. The count stands still at 2^64 - 1.
+    /// How many calls have failed. The count saturates at 2^64 - 1.
     pub fn faults(&self) -> u64
         ensures { result ≡ self.now.faults }
     {
-        self.faults
+        self.faults.count()
     }
 
-    /// Appends at least one byte of the piece. `None` where that, the memory or the opening fails.
+    /// Appends at least one byte of the piece to the file of an endpoint. `None` if that, the memory or the opening
+    /// fails.
     fn append(&mut self, e: EndpointNo, piece: &[u8]) -> Option<usize>
         requires { 0 < length piece.now }
         ensures some { IfSome result (λ n. 0 < n) }
         ensures count { IfSome result (λ n. n ≤ length piece.now) }
-        ensures keeps { self.new ≡ self.old }
+        ensures ends { MatchOption result (StaysAt e.0 self.old.appended self.new.appended) (λ n.
+            MovesAt (AppendsPiece (take n piece.now)) e.0 self.old.appended self.new.appended) }
+        ensures others { self.new ≡ record self.old { appended = self.new.appended } }
     {
-        let place = match place_of(&self.appended, e) {
-            Some(place) => place,
-            None => {
-                let file = open_to_append(&self.rt, self.alloc, self.folder.as_str(), e)?;
-                keep_open(&mut self.appended, e, file)?
-            }
-        };
+        let place = place_opened(&self.folder, &append_options(), &mut self.appended, e)?;
         write_once(&mut self.appended[place].file, piece)
     }
 
-    /// Reads on. `None` where that, the memory or the opening fails.
+    /// Reads on in the file of an endpoint. `None` if that, the memory or the opening fails.
     fn read_on(&mut self, e: EndpointNo, buf: &mut [u8]) -> Option<usize>
         requires { 0 < length buf.old }
         ensures count { IfSome result (λ n. n ≤ length buf.new) }
-        ensures keeps { self.new ≡ self.old }
+        ensures ends { MatchOption result (StaysAt e.0 self.old.read self.new.read) (λ n.
+            MovesAt (GivesFront n buf.new) e.0 self.old.read self.new.read) }
+        ensures others { self.new ≡ record self.old { read = self.new.read } }
     {
-        let place = match place_of(&self.read, e) {
-            Some(place) => place,
-            None => {
-                let file = open_to_read(&self.rt, self.alloc, self.folder.as_str(), e)?;
-                keep_open(&mut self.read, e, file)?
-            }
-        };
+        let place = place_opened(&self.folder, &read_options(), &mut self.read, e)?;
         read_once(&mut self.read[place].file, buf)
     }
 }
@@ -110,14 +109,15 @@ impl<R: Files + Drop> Devices for FileDevices<R> {
         ensures some { IfOk result (λ n. 0 < n) }
         ensures count { IfOk result (λ n. n ≤ length piece.now) }
         ensures cause { Counts result self.old.faults self.new.faults }
-        ensures folder { self.new.folder ≡ self.old.folder }
+        ensures takes { IfOk result (λ n.
+            MovesAt (AppendsPiece (take n piece.now)) e.0 self.old.appended self.new.appended) }
+        ensures err { OnErr result (StaysAt e.0 self.old.appended self.new.appended) }
+        ensures others { self.new ≡
+            record self.old { appended = self.new.appended; faults = self.new.faults } }
     {
         match self.append(e, piece) {
             Some(count) => Ok(count),
-            None => {
-                self.faults = self.faults.saturating_add(1);
-                Err(Failed)
-            }
+            None => Err(self.faults.raise()),
         }
     }
 
@@ -126,54 +126,61 @@ impl<R: Files + Drop> Devices for FileDevices<R> {
         requires { 0 < length buf.old }
         ensures count { IfOk result (λ n. n ≤ length buf.new) }
         ensures cause { Counts result self.old.faults self.new.faults }
-        ensures folder { self.new.folder ≡ self.old.folder }
+        ensures gives { IfOk result (λ n. MovesAt (GivesFront n buf.new) e.0 self.old.read self.new.read) }
+        ensures err { OnErr result (StaysAt e.0 self.old.read self.new.read) }
+        ensures others { self.new ≡ record self.old { read = self.new.read; faults = self.new.faults } }
     {
         match self.read_on(e, buf) {
             Some(count) => Ok(count),
-            None => {
-                self.faults = self.faults.saturating_add(1);
-                Err(Failed)
-            }
+            None => Err(self.faults.raise()),
         }
     }
 }
 
-/// Where the file of an endpoint stands.
-fn place_of<F: Drop>(files: &[Used<F>], e: EndpointNo) -> Option<usize>
-    ensures { IfSome result (λ i. i < length files.now) }
+/// The place of the file of an endpoint among those that are kept. At the first use of the endpoint the file is opened,
+/// with these options. `None`, if memory runs out or the file can't be opened, changes nothing.
+#[tactic(auto, using(crate::proofs::OpenFiles::found_new))]
+fn place_opened<R: Files + Drop>(
+    folder: &Folder<R>,
+    options: &OpenOptions,
+    files: &mut Vec<KeptFile<R::File>>,
+    e: EndpointNo,
+) -> Option<usize>
+    ensures place { IfSome result (λ i. Some i ≡ position (is_kept_for e.0) files.new.items) }
+    ensures opens { IfSome result (λ i. OpensFor e.0 files.old.items files.new.items) }
+    ensures none { IfNone result (files.new.items ≡ files.old.items) }
 {
-    files.iter().position(|used| used.endpoint == e)
+    match place_of(files, e) {
+        Some(place) => Some(place),
+        None => {
+            let name = file_name(folder.alloc, folder.name.as_str(), e)?;
+            let file = options.open(&folder.rt, name.as_str()).ok()?;
+            keep_open(files, e, file)
+        }
+    }
 }
 
-/// Keeps a file for an endpoint, and answers where it stands. `None` where there is no memory.
-fn keep_open<F: Drop>(files: &mut Vec<Used<F>>, endpoint: EndpointNo, file: F) -> Option<usize>
-    ensures { IfSome result (λ i. i < vec_len files.new) }
-{
-    let place = files.len();
-    files.push(Used { endpoint, file }).ok()?;
-    Some(place)
-}
-
-/// Opens the file of an endpoint at its end, and makes it where it is missing.
-fn open_to_append<R: Files>(rt: &R, alloc: Global, folder: &str, e: EndpointNo) -> Option<R::File> {
-    let path = file_name(alloc, folder, e)?;
-    let mut options = OpenOptions::new();
-    options.append(true).create(true);
-    options.open(rt, path.as_str()).ok()
-}
-
-/// Opens the file of an endpoint at its front.
-fn open_to_read<R: Files>(rt: &R, alloc: Global, folder: &str, e: EndpointNo) -> Option<R::File> {
-    let path = file_name(alloc, folder, e)?;
-    File::open(rt, path.as_str()).ok()
-}
-
-/// The name of the file of an endpoint. `None` where there is no memory.
+/// The name of the file of an endpoint. `None` if memory runs out.
 fn file_name(alloc: Global, folder: &str, e: EndpointNo) -> Option<String>
     ensures { IfSome result (λ name. string_bytes name ≡ name_in folder.now e.0) }
 {
-    match format!(in alloc; "{folder}/endpoint-{}.pcm", e.0) {
-        Ok(name) => Some(name),
-        Err(_) => None,
-    }
+    format!(in alloc; "{folder}/endpoint-{}.pcm", e.0).ok()
+}
+
+/// How a file is opened that is appended to: it is made if it is missing.
+fn append_options() -> OpenOptions
+    ensures { result ≡ with_create (with_append new_options true) true }
+{
+    let mut options = OpenOptions::new();
+    options.append(true).create(true);
+    options
+}
+
+/// How a file is opened that is read.
+fn read_options() -> OpenOptions
+    ensures { result ≡ with_read new_options true }
+{
+    let mut options = OpenOptions::new();
+    options.read(true);
+    options
 }

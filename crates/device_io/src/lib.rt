@@ -2,9 +2,10 @@
 #![tactic(auto)]
 
 mod devices;
+mod endpoints;
 mod files;
+mod kept;
 mod laws;
-mod lines;
 mod memory;
 
 pub use devices::Devices;

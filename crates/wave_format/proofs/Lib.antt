@@ -1,3 +1,5 @@
 pub mod FrameLaws
 pub mod BlockLaws
+pub mod RowLaws
+pub mod FieldLaws
 pub mod FormatLaws

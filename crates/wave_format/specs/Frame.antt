@@ -1,10 +1,12 @@
--- Frames: one sample a channel. In the model a frame is a list of numbers from -32768 to 32767; in a store it is one word of 64 bits.
-use Rattle.std.specs.Prelude.{◌≡◌, ◌<◌, length, slice_index, ℕ, zero, suc, ◌+◌, ◌*◌, ◌/◌, ◌%◌, ◌^◌, List, [], ◌∷◌, take, drop, map, ℤ}
+-- Frames: one sample a channel. In the model a frame is a list of numbers from -32768 to 32767; in a store it is one
+-- word of 64 bits.
+use Rattle.std.specs.Prelude.{◌≡◌, ◌<◌, length, slice_index, ℕ, zero, suc, ◌+◌, ◌*◌, ◌/◌, ◌%◌, ◌^◌, List, [], ◌∷◌}
+use Rattle.std.specs.Prelude.{take, drop, map, ℤ}
 use Rattle.std.specs.List.{flat_map, range_with_len, AllByRecursion}
 use Rattle.std.specs.Int.{w16, cast_unsigned, cast_signed, to_le_bytes, from_le_bytes}
 use Rattle.std.specs.Int.RustNames.{FitsSigned}
 
--- a frame: as many samples as the stream has channels, each from -32768 to 32767 (WAVEFORMATEX: nChannels, wBitsPerSample)
+-- a frame: a sample for each channel of the stream, from -32768 to 32767 (WAVEFORMATEX: nChannels, wBitsPerSample)
 pub record IsFrame (channels : ℕ) (samples : List ℤ) : Type 0 where
   pub count : length samples ≡ channels
   pub within : AllByRecursion (FitsSigned w16) samples
@@ -40,7 +42,8 @@ frame_from [] = []
 frame_from (low ∷ []) = []
 frame_from (low ∷ high ∷ bytes) = cast_signed w16 (from_le_bytes w16 (low ∷ high ∷ [])) ∷ frame_from bytes
 
--- so many frames, block by block of two bytes a channel (WAVEFORMATEX, nBlockAlign)
+-- `count` frames, one after another, of two bytes a channel each (WAVEFORMATEX, nBlockAlign)
 abbrev pub frames_from : ℕ → ℕ → List ℕ → List (List ℤ)
 frames_from zero channels bytes = []
-frames_from (suc count) channels bytes = frame_from (take (channels * 2) bytes) ∷ frames_from count channels (drop (channels * 2) bytes)
+frames_from (suc count) channels bytes =
+    frame_from (take (channels * 2) bytes) ∷ frames_from count channels (drop (channels * 2) bytes)

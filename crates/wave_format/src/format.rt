@@ -1,8 +1,18 @@
-//! Formats of sound (WAVEFORMATEX of mmreg.h) and their bytes.
+//! Formats of sound (WAVEFORMATEX and WAVEFORMATEXTENSIBLE of mmreg.h) and their bytes.
 
-ghost use Rattle.std.specs.Prelude.{◌≡◌, ℕ, ◌+◌, ◌≤◌, ◌++◌, length, IsOk, OnOk, OnErr};
-ghost use Rattle.wave_format.specs.Format.{IsLawful, fault_rows, field, first, format_at, frames_of_time, head, spelling, tag_of};
+ghost use Rattle.std.specs.Prelude.{◌≡◌, ◌+◌, ◌≤◌, true, ◌++◌, length, IsOk, OnOk, OnErr};
+ghost use Rattle.ca_base.specs.Rows.{first};
+ghost use Rattle.wave_format.specs.Fields.{extension_of};
+ghost use Rattle.wave_format.specs.Format.{IsValid, extensible_spelling, fault_rows, format_at, format_fields};
+ghost use Rattle.wave_format.specs.Format.{frames_of_time, has_sample_bits, has_sub_format, is_extensible};
+ghost use Rattle.wave_format.specs.Format.{plain_spelling, spelling, tag_of};
 
+use crate::fields::{Fields, long_at, short_at};
+use crate::layout::{
+    EXTENSIBLE_LENGTH, EXTENSIBLE_TAG, EXTRA_SIZE, MASK_AT, MAX_CHANNELS, PLAIN_LENGTH, PLAIN_TAG,
+    RATES, SAMPLE_BITS, SAMPLE_SIZE, SUB_FORMAT, SUB_FORMAT_AT, TAG_AT, UNITS_A_SECOND,
+    VALID_BITS_AT,
+};
 use ca_base::{Bytes, NoMemory};
 
 /// A format of sound: signed samples of 16 bits, little-endian, one a channel in each frame.
@@ -14,7 +24,7 @@ pub struct Format {
     pub rate: u32,
     /// Whether its bytes are a WAVEFORMATEXTENSIBLE.
     pub extensible: bool,
-    /// The channel mask, which has no effect; 0 where the format isn't extensible.
+    /// The channel mask, which has no effect; 0 if the format isn't extensible.
     pub mask: u32,
 }
 
@@ -22,31 +32,21 @@ pub struct Format {
 #[derive(Clone, Copy, Debug, PartialEq, Eq)]
 pub struct FormatFault(pub u8);
 
-/// The bytes of a WAVEFORMATEX, and WAVE_FORMAT_PCM.
-const PLAIN_LENGTH: usize = 18;
-
-const PLAIN_TAG: u16 = 1;
-
-/// The rates that the service takes (this project's own).
-const RATES: [u32; 6] = [8000, 16000, 32000, 44100, 48000, 96000];
-
-fn short_at(bytes: &[u8], place: usize) -> u16
-    requires { place + 2 ≤ length bytes.now }
-    ensures { result ≡ field place 2 bytes.now }
+/// Whether samples have 16 bits, all of them valid.
+fn has_sample_bits(bytes: &[u8], fields: &Fields) -> bool
+    requires { is_extensible fields.now ≡ true → EXTENSIBLE_LENGTH ≤ length bytes.now }
+    ensures { result ≡ has_sample_bits fields.now (extension_of bytes.now) }
 {
-    u16::from_le_bytes([bytes[place], bytes[place + 1]])
+    fields.bits == SAMPLE_BITS
+        && (!fields.is_extensible() || short_at(bytes, VALID_BITS_AT) == SAMPLE_BITS)
 }
 
-fn long_at(bytes: &[u8], place: usize) -> u32
-    requires { place + 4 ≤ length bytes.now }
-    ensures { result ≡ field place 4 bytes.now }
+/// Whether samples are whole numbers.
+fn has_sub_format(bytes: &[u8], fields: &Fields) -> bool
+    requires { is_extensible fields.now ≡ true → EXTENSIBLE_LENGTH ≤ length bytes.now }
+    ensures { result ≡ has_sub_format fields.now (extension_of bytes.now) }
 {
-    u32::from_le_bytes([
-        bytes[place],
-        bytes[place + 1],
-        bytes[place + 2],
-        bytes[place + 3],
-    ])
+    !fields.is_extensible() || bytes[SUB_FORMAT_AT..] == SUB_FORMAT[..]
 }
 
 /// The first fault of these bytes.
@@ -56,35 +56,30 @@ fn first_fault(bytes: &[u8]) -> Option<u8>
     if bytes.len() < PLAIN_LENGTH {
         return Some(1);
     }
-    let tag = short_at(bytes, 0);
-    let extra = if tag == PLAIN_TAG {
-        0
-    } else {
-        short_at(bytes, 16) as usize
-    };
-    if bytes.len() != PLAIN_LENGTH + extra {
+    let fields = Fields::read(bytes);
+    if bytes.len() != fields.whole_length() {
         return Some(2);
     }
-    if tag != PLAIN_TAG {
+    if !fields.is_known() {
         return Some(3);
     }
-    if short_at(bytes, 14) != 16 {
+    if !has_sample_bits(bytes, &fields) {
         return Some(4);
     }
-    let channels = short_at(bytes, 2);
-    if channels < 1 || channels > 4 {
+    if fields.channels < 1 || fields.channels > MAX_CHANNELS {
         return Some(5);
     }
-    let rate = long_at(bytes, 4);
-    if !RATES.contains(&rate) {
+    if !RATES.contains(&fields.rate) {
         return Some(6);
     }
-    let block = short_at(bytes, 12);
-    if block != channels * 2 {
+    if fields.block_align != fields.channels * SAMPLE_SIZE {
         return Some(7);
     }
-    if long_at(bytes, 8) != rate * block as u32 {
+    if fields.average != fields.rate * fields.block_align as u32 {
         return Some(8);
+    }
+    if !has_sub_format(bytes, &fields) {
+        return Some(9);
     }
     None
 }
@@ -96,55 +91,88 @@ pub fn read_format(bytes: &[u8]) -> Result<Format, FormatFault>
     if let Some(fault) = first_fault(bytes) {
         return Err(FormatFault(fault));
     }
+    let fields = Fields::read(bytes);
+    let extensible = fields.is_extensible();
+    let mask = if extensible {
+        long_at(bytes, MASK_AT)
+    } else {
+        0
+    };
     Ok(Format {
-        channels: short_at(bytes, 2),
-        rate: long_at(bytes, 4),
-        extensible: false,
-        mask: 0,
+        channels: fields.channels,
+        rate: fields.rate,
+        extensible,
+        mask,
     })
 }
 
-/// The tag of these bytes (WAVEFORMATEX, wFormatTag), where there are two.
+/// The tag of these bytes (WAVEFORMATEX, wFormatTag), if there are two.
 pub fn format_tag(bytes: &[u8]) -> Option<u16>
     ensures { result ≡ tag_of bytes.now }
 {
     if bytes.len() < 2 {
         return None;
     }
-    Some(short_at(bytes, 0))
+    Some(short_at(bytes, TAG_AT))
 }
 
-/// The 18 bytes of a format with this tag and this cbSize (WAVEFORMATEX).
-fn head_bytes(format: &Format, tag: u16, extra: u16) -> [u8; 18]
-    requires { IsLawful format.now }
-    ensures { result ≡ head tag extra format.now }
+/// The fields of a format with this tag and this `cbSize`.
+fn fields_of_format(format: &Format, tag: u16, extra: u16) -> Fields
+    requires { IsValid format.now }
+    ensures { result ≡ format_fields tag extra format.now }
 {
-    let block = format.channels * 2;
-    let [t0, t1] = tag.to_le_bytes();
-    let [c0, c1] = format.channels.to_le_bytes();
-    let [r0, r1, r2, r3] = format.rate.to_le_bytes();
-    let [a0, a1, a2, a3] = (format.rate * block as u32).to_le_bytes();
-    let [b0, b1] = block.to_le_bytes();
-    let [e0, e1] = extra.to_le_bytes();
-    [
-        t0, t1, c0, c1, r0, r1, r2, r3, a0, a1, a2, a3, b0, b1, 16, 0, e0, e1,
-    ]
+    let block_align = format.channels * SAMPLE_SIZE;
+    Fields {
+        tag,
+        channels: format.channels,
+        rate: format.rate,
+        average: format.rate * block_align as u32,
+        block_align,
+        bits: SAMPLE_BITS,
+        extra,
+    }
 }
 
-/// Adds the bytes of a format. It asks for memory only where there is no room, and `NoMemory` leaves the bytes as they were.
+/// The bytes of a format that isn't extensible.
+fn plain_bytes(format: &Format) -> [u8; PLAIN_LENGTH]
+    requires { IsValid format.now }
+    ensures { result ≡ plain_spelling 0 format.now }
+{
+    fields_of_format(format, PLAIN_TAG, 0).to_bytes()
+}
+
+/// The bytes of a format that is.
+fn extensible_bytes(format: &Format) -> [u8; EXTENSIBLE_LENGTH]
+    requires { IsValid format.now }
+    ensures { result ≡ extensible_spelling format.now }
+{
+    let mut bytes = [0; EXTENSIBLE_LENGTH];
+    let fields = fields_of_format(format, EXTENSIBLE_TAG, EXTRA_SIZE);
+    bytes[..PLAIN_LENGTH].copy_from_slice(&fields.to_bytes());
+    bytes[VALID_BITS_AT..MASK_AT].copy_from_slice(&SAMPLE_BITS.to_le_bytes());
+    bytes[MASK_AT..SUB_FORMAT_AT].copy_from_slice(&format.mask.to_le_bytes());
+    bytes[SUB_FORMAT_AT..].copy_from_slice(&SUB_FORMAT);
+    bytes
+}
+
+/// Adds the bytes of a format. It asks for memory only if they exceed the capacity, and `NoMemory` leaves the bytes as
+/// they were.
 pub fn write_format(f: &Format, out: &mut Bytes) -> Result<(), NoMemory>
-    requires { IsLawful f.now }
+    requires { IsValid f.now }
     ensures ok { OnOk result (out.new.list ≡ out.old.list ++ spelling f.now) }
-    ensures keeps { out.old.room ≤ out.new.room }
-    ensures fits { length out.old.list + length (spelling f.now) ≤ out.old.room → IsOk result }
+    ensures keeps { out.old.capacity ≤ out.new.capacity }
+    ensures fits { length out.old.list + length (spelling f.now) ≤ out.old.capacity → IsOk result }
     ensures err { OnErr result (out.new.list ≡ out.old.list) }
 {
-    out.append(&head_bytes(f, PLAIN_TAG, 0))
+    if f.extensible {
+        return out.append(&extensible_bytes(f));
+    }
+    out.append(&plain_bytes(f))
 }
 
 /// How many frames last a time in units of 100 ns, rounded up.
 pub fn frames_of(rate: u32, t: u64) -> u128
     ensures { result ≡ frames_of_time rate t }
 {
-    (rate as u128 * t as u128 + 9_999_999) / 10_000_000
+    (rate as u128 * t as u128 + (UNITS_A_SECOND as u128 - 1)) / UNITS_A_SECOND as u128
 }

@@ -55,7 +55,7 @@ pub fn word_from_bytes(frame: &[u8]) -> u64
     }
 }
 
-/// Writes the first samples of a frame's word as bytes: as many as there is room for, 1 to 4 of two bytes, little-endian.
+/// Writes the first samples of a frame's word as bytes, little-endian: 1 to 4 of two bytes, which fill `out`.
 pub fn bytes_of_word(word: u64, out: &mut [u8])
     requires some { 0 < length out.old }
     requires few { length out.old ≤ 8 }

@@ -1,9 +1,11 @@
 //! Formats of sound, and frames as words and as bytes.
 #![tactic(auto)]
 
+mod fields;
 mod format;
 mod frame;
 mod laws;
+pub mod layout;
 #[cfg(test)]
 mod tests;
 

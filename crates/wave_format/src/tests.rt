@@ -10,60 +10,93 @@ const STEREO: [u8; 18] = [
     0x00, 0x00,
 ];
 
+/// The same with the mask of a left and a right speaker in front.
+const SPEAKERS: [u8; 40] = [
+    0xfe, 0xff, 0x02, 0x00, 0x80, 0xbb, 0x00, 0x00, 0x00, 0xee, 0x02, 0x00, 0x04, 0x00, 0x10, 0x00,
+    0x16, 0x00, 0x10, 0x00, 0x03, 0x00, 0x00, 0x00, 0x01, 0x00, 0x00, 0x00, 0x00, 0x00, 0x10, 0x00,
+    0x80, 0x00, 0x00, 0xaa, 0x00, 0x38, 0x9b, 0x71,
+];
+
+const PLAIN_FORMAT: Format = Format {
+    channels: 2,
+    rate: 48000,
+    extensible: false,
+    mask: 0,
+};
+
+const SPEAKERS_FORMAT: Format = Format {
+    channels: 2,
+    rate: 48000,
+    extensible: true,
+    mask: 3,
+};
+
 #[test]
-fn worked_format(rt: HostRuntime) -> Result<(), Fail> {
-    let stereo = Format {
-        channels: 2,
-        rate: 48000,
-        extensible: false,
-        mask: 0,
-    };
-    assert_eq!(rt; read_format(&STEREO), Ok(stereo));
+fn worked_formats(rt: HostRuntime) -> Result<(), Fail> {
+    assert_eq!(rt; read_format(&STEREO), Ok(PLAIN_FORMAT));
+    assert_eq!(rt; read_format(&SPEAKERS), Ok(SPEAKERS_FORMAT));
     assert_eq!(rt; format_tag(&STEREO), Some(1));
+    assert_eq!(rt; format_tag(&SPEAKERS), Some(0xfffe));
     let mut out = Bytes::new(rt.alloc());
-    assert_eq!(rt; write_format(&stereo, &mut out), Ok(()));
+    assert_eq!(rt; write_format(&PLAIN_FORMAT, &mut out), Ok(()));
     assert_eq!(rt; out.as_slice(), STEREO.as_slice());
+    out.clear();
+    assert_eq!(rt; write_format(&SPEAKERS_FORMAT, &mut out), Ok(()));
+    assert_eq!(rt; out.as_slice(), SPEAKERS.as_slice());
     Ok(())
 }
 
-/// The fault of the worked format with one byte changed.
-fn fault_with(place: usize, byte: u8) -> Result<Format, FormatFault> {
-    let mut bytes = STEREO;
+/// What is read with one byte changed.
+fn read_with<const N: usize>(mut bytes: [u8; N], place: usize, byte: u8) -> Result<Format, u8> {
     if place < bytes.len() {
         bytes[place] = byte;
     }
-    read_format(&bytes)
+    read_format(&bytes).map_err(|fault| fault.0)
 }
 
 #[test]
 fn faults(rt: HostRuntime) -> Result<(), Fail> {
-    for (place, byte, fault) in [
-        (0, 2, 3),
-        (14, 8, 4),
-        (2, 0, 5),
-        (2, 5, 5),
-        (4, 0x81, 6),
-        (12, 6, 7),
-        (8, 1, 8),
+    for (place, byte, read) in [
+        (0, 2, Err(3)),
+        (2, 0, Err(5)),
+        (2, 5, Err(5)),
+        (4, 0x81, Err(6)),
+        (8, 1, Err(8)),
+        (12, 6, Err(7)),
+        (14, 8, Err(4)),
+        (16, 7, Ok(PLAIN_FORMAT)),
     ] {
         assert_eq!(rt;
-            fault_with(place, byte),
-            Err(FormatFault(fault)),
+            read_with(STEREO, place, byte),
+            read,
+            "byte {byte} at {place}"
+        );
+    }
+    for (place, byte, read) in [
+        (0, 0xfd, Err(3)),
+        (8, 1, Err(8)),
+        (16, 21, Err(2)),
+        (18, 15, Err(4)),
+        (
+            23,
+            0x80,
+            Ok(Format {
+                mask: 0x8000_0003,
+                ..SPEAKERS_FORMAT
+            }),
+        ),
+        (24, 3, Err(9)),
+        (39, 0, Err(9)),
+    ] {
+        assert_eq!(rt;
+            read_with(SPEAKERS, place, byte),
+            read,
             "byte {byte} at {place}"
         );
     }
     assert_eq!(rt; read_format(&STEREO[..17]), Err(FormatFault(1)));
-    let longer = [1u8; 19];
-    assert_eq!(rt; read_format(&longer), Err(FormatFault(2)));
-    // an extensible format: its length is right, its tag isn't taken
-    let mut extensible = [0u8; 40];
-    extensible[0] = 0xfe;
-    extensible[1] = 0xff;
-    extensible[16] = 22;
-    assert_eq!(rt; read_format(&extensible), Err(FormatFault(3)));
-    assert_eq!(rt; read_format(&extensible[..39]), Err(FormatFault(2)));
-    // with tag 1 cbSize is ignored
-    assert_eq!(rt; fault_with(16, 7), read_format(&STEREO));
+    assert_eq!(rt; read_format(&[1; 19]), Err(FormatFault(2)));
+    assert_eq!(rt; read_format(&SPEAKERS[..39]), Err(FormatFault(2)));
     Ok(())
 }
 

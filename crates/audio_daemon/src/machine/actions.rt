@@ -2,12 +2,12 @@
 
 ghost use Rattle.std.specs.Prelude.{◌≡◌, ◌≢◌, ℕ, ◌+◌, ◌*◌, ◌<◌, ◌≤◌, Some, None, [], ◌∷◌, length, true, false, IfSome, is_none};
 ghost use Rattle.std.specs.Option.{option_map};
-ghost use Rattle.ca_machine.specs.Plan.{granted};
-ghost use Rattle.ca_machine.specs.Moves.{stream_at};
-ghost use Rattle.ca_machine.specs.Moves.Move.{leased, started};
-ghost use Rattle.ca_machine.specs.State.{client_of};
+ghost use Rattle.first_machine.specs.Plan.{granted};
+ghost use Rattle.first_machine.specs.Moves.{stream_at};
+ghost use Rattle.first_machine.specs.Moves.Move.{leased, started};
+ghost use Rattle.first_machine.specs.State.{client_of};
 ghost use Rattle.std.specs.Prelude.{is_some};
-ghost use Rattle.ca_machine.specs.Tables.{initialized, open_plan, add_plan, activate_plan, released_of, shared_buffer};
+ghost use Rattle.first_machine.specs.Tables.{initialized, open_plan, add_plan, activate_plan, released_of, shared_buffer};
 ghost use Rattle.wave_format.specs.Format.{spelled, frames_of_time};
 ghost use Rattle.audio_daemon.specs.Service.{state_of, channels_of, Holds};
 ghost use Rattle.audio_daemon.specs.Release.{MayRelease};

@@ -2,8 +2,8 @@
 
 ghost use Rattle.std.specs.Prelude.{◌≡◌, ◌≤◌, [], length};
 ghost use Rattle.std.specs.Int.{to_le_bytes, w64};
-ghost use Rattle.ca_machine.specs.Step.{call_plan, device_plan};
-ghost use Rattle.ca_machine.specs.Tables.{open_plan, add_plan, activate_plan, initialize_plan, start_plan, get_buffer_plan, release_plan};
+ghost use Rattle.first_machine.specs.Step.{call_plan, device_plan};
+ghost use Rattle.first_machine.specs.Tables.{open_plan, add_plan, activate_plan, initialize_plan, start_plan, get_buffer_plan, release_plan};
 ghost use Rattle.audio_daemon.specs.Service.{state_of};
 ghost use Rattle.audio_daemon.specs.Gets.{Has};
 
@@ -16,8 +16,9 @@ use std::alloc::Global;
 /// Puts a number of eight bytes into the empty payload.
 fn put_number(payload: &mut Bytes, number: u64)
     requires empty { payload.old.list ≡ [] }
-    requires room { 8 ≤ payload.old.room }
-    ensures { payload.new.list ≡ to_le_bytes w64 number }
+    requires room { 8 ≤ payload.old.capacity }
+    ensures list { payload.new.list ≡ to_le_bytes w64 number }
+    ensures keeps { payload.old.capacity ≤ payload.new.capacity }
 {
     let _ = payload.append(&number.to_le_bytes());
 }
@@ -62,9 +63,10 @@ impl Service {
         payload: &mut Bytes,
     ) -> Hr
         requires empty { payload.old.list ≡ [] }
-        requires room { 8 ≤ payload.old.room }
+        requires room { 8 ≤ payload.old.capacity }
         ensures table { Has (state_of self.old) (activate_plan (state_of self.old) conn.0 endpoint.0 role) result payload.new.list (state_of self.new) }
         ensures short { length payload.new.list ≤ 8 }
+        ensures keeps { payload.old.capacity ≤ payload.new.capacity }
     {
         if let Some(code) = self.activate_refusal(conn, endpoint, role) {
             return built(code);
@@ -88,9 +90,10 @@ impl Service {
         payload: &mut Bytes,
     ) -> Hr
         requires empty { payload.old.list ≡ [] }
-        requires room { 8 ≤ payload.old.room }
+        requires room { 8 ≤ payload.old.capacity }
         ensures table { Has (state_of self.old) (initialize_plan (state_of self.old) conn.0 client.0 share flags duration period format.now session.0) result payload.new.list (state_of self.new) }
         ensures short { length payload.new.list ≤ 8 }
+        ensures keeps { payload.old.capacity ≤ payload.new.capacity }
     {
         if let Some(code) = self.initialize_refusal(
             conn, client, share, flags, duration, period, format, session,
@@ -151,9 +154,10 @@ impl Service {
         payload: &mut Bytes,
     ) -> Hr
         requires empty { payload.old.list ≡ [] }
-        requires room { 8 ≤ payload.old.room }
+        requires room { 8 ≤ payload.old.capacity }
         ensures table { Has (state_of self.old) (call_plan (state_of self.old) conn.0 call.now) result payload.new.list (state_of self.new) }
         ensures short { length payload.new.list ≤ 8 }
+        ensures keeps { payload.old.capacity ≤ payload.new.capacity }
     {
         match call {
             Call::Activate { endpoint, role } => {
@@ -188,6 +192,17 @@ impl Service {
                 bytes,
             } => self.answer_release(conn, *client, *frames, *flags, bytes.as_slice()),
             Call::Other { .. } => Hr::E_NOTIMPL,
+            Call::Release { .. } => Hr::E_NOTIMPL,
+            Call::GetBufferSize { .. } => Hr::E_NOTIMPL,
+            Call::GetStreamLatency { .. } => Hr::E_NOTIMPL,
+            Call::GetCurrentPadding { .. } => Hr::E_NOTIMPL,
+            Call::IsFormatSupported { .. } => Hr::E_NOTIMPL,
+            Call::GetMixFormat { .. } => Hr::E_NOTIMPL,
+            Call::GetDevicePeriod { .. } => Hr::E_NOTIMPL,
+            Call::Stop { .. } => Hr::E_NOTIMPL,
+            Call::Reset { .. } => Hr::E_NOTIMPL,
+            Call::GetService { .. } => Hr::E_NOTIMPL,
+            Call::GetPosition { .. } => Hr::E_NOTIMPL,
         }
     }
 

@@ -3,8 +3,8 @@
 ghost use Rattle.std.specs.Prelude.{◌≡◌, ℕ, ◌≤◌, ◌/◌, ◌%◌, true, false, Some, None, MatchResult, is_some};
 ghost use Rattle.std.specs.List.{list_all};
 ghost use Rattle.std.specs.Str.{is_utf8 as is_utf8_text};
-ghost use Rattle.ca_machine.specs.Plan as plan;
-ghost use Rattle.ca_machine.specs.Tables as table;
+ghost use Rattle.first_machine.specs.Plan as plan;
+ghost use Rattle.first_machine.specs.Tables as table;
 ghost use Rattle.wave_format.specs.Format.{spelled};
 
 use ca_base::Hr;
@@ -73,7 +73,7 @@ pub fn format_of(bytes: &[u8]) -> Result<Format, FormatFault>
     ensures given { MatchResult result
         (λ format. (table.fault_of bytes.now ≡ None) × (format ≡ spelled bytes.now))
         (λ fault. table.fault_of bytes.now ≡ Some fault.0) }
-    ensures lawful { MatchResult result (λ format. (1 ≤ format.channels) × (format.channels ≤ 4) × (format.rate ≤ 96000)) (λ fault. true ≡ true) }
+    ensures valid { MatchResult result (λ format. (1 ≤ format.channels) × (format.channels ≤ 4) × (format.rate ≤ 96000)) (λ fault. true ≡ true) }
 {
     read_format_is_written();
     read_format(bytes)

@@ -9,6 +9,9 @@ use device_io::Devices;
 use std::alloc::Global;
 use std::marker::Model;
 
+/// The longest payload of a reply, in bytes: a client's number.
+pub const REPLY_ROOM: usize = 8;
+
 /// The one-thread machine: the devices, and the state of the service.
 #[derive(Drop)]
 pub struct Machine<D: Devices> {
@@ -28,8 +31,8 @@ impl<D: Devices> Model for Machine<D> {
 
 ghost use Rattle.std.specs.Prelude.{◌≡◌, ◌≤◌, [], ◌∷◌, ◌++◌, if◌then◌else◌};
 ghost use Rattle.std.specs.Int.{to_le_bytes, w32};
-ghost use Rattle.ca_machine.specs.State.{empty_state};
-ghost use Rattle.ca_machine.specs.Tables.{period_plan};
+ghost use Rattle.first_machine.specs.State.{empty_state};
+ghost use Rattle.first_machine.specs.Tables.{period_plan};
 ghost use Rattle.audio_daemon.specs.Gets.{Gets};
 ghost use Rattle.audio_daemon.specs.Machine.{Answers, Stays};
 ghost use Rattle.audio_daemon.specs.Service.{state_of};
@@ -37,8 +40,9 @@ ghost use Rattle.audio_daemon.specs.Service.{state_of};
 /// The frames and the outcome of a period, in five bytes.
 fn put_period(payload: &mut Bytes, frames: u32, failed: bool)
     requires empty { payload.old.list ≡ [] }
-    requires room { 8 ≤ payload.old.room }
-    ensures { payload.new.list ≡ to_le_bytes w32 frames ++ (if failed then 1 else 0) ∷ [] }
+    requires room { 8 ≤ payload.old.capacity }
+    ensures list { payload.new.list ≡ to_le_bytes w32 frames ++ (if failed then 1 else 0) ∷ [] }
+    ensures keeps { payload.old.capacity ≤ payload.new.capacity }
 {
     let [a, b, c, d] = frames.to_le_bytes();
     let outcome = if failed { 1 } else { 0 };
@@ -53,9 +57,10 @@ fn answer_period<D: Devices>(
     payload: &mut Bytes,
 ) -> Hr
     requires empty { payload.old.list ≡ [] }
-    requires room { 8 ≤ payload.old.room }
-    ensures { Gets (state_of service.old) (period_plan (state_of service.old) number.0) result payload.new.list (state_of service.new)
-        (D.faults devices.old) (D.told devices.old) (D.faults devices.new) (D.told devices.new) }
+    requires room { 8 ≤ payload.old.capacity }
+    ensures table { Gets (state_of service.old) (period_plan (state_of service.old) number.0) result payload.new.list
+        (state_of service.new) (D.faults devices.old) (D.told devices.old) (D.faults devices.new) (D.told devices.new) }
+    ensures keeps { payload.old.capacity ≤ payload.new.capacity }
 {
     if let Some(code) = service.period_refusal(number) {
         return built(code);
@@ -107,8 +112,10 @@ impl<D: Devices> Desk for Machine<D> {
 
     ghost stays = { λ old new. Stays D.faults D.told old new };
 
+    ghost reply_room = { λ _ _. 8 };
+
     fn ask(&mut self, ev: &Event, out: &mut Reply) -> Result<(), NoMemory> {
-        out.payload.reserve(8)?;
+        out.payload.reserve(REPLY_ROOM)?;
         out.kind = 0;
         out.conn = 0;
         out.tag = 0;

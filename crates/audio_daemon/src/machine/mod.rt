@@ -11,4 +11,4 @@ mod sounding;
 mod stream;
 mod words;
 
-pub use desk::Machine;
+pub use desk::{Machine, REPLY_ROOM};

@@ -1,9 +1,9 @@
 //! A period of the endpoint.
 
 ghost use Rattle.std.specs.Prelude.{◌≡◌, ℕ, List, ◌+◌, ◌*◌, ◌<◌, ◌≤◌, ◌^◌, Some, IfSome, true, false, is_some, is_none, map, vec_capacity};
-ghost use Rattle.ca_machine.specs.Stage.{period_frames, Endpoint as TheEndpoint};
-ghost use Rattle.ca_machine.specs.Moves.{finishes};
-ghost use Rattle.ca_machine.specs.Tables.{bytes_due};
+ghost use Rattle.first_machine.specs.Stage.{period_frames, Endpoint as TheEndpoint};
+ghost use Rattle.first_machine.specs.Moves.{finishes};
+ghost use Rattle.first_machine.specs.Tables.{bytes_due};
 ghost use Rattle.audio_daemon.specs.Streams.{streams_in};
 ghost use Rattle.audio_daemon.specs.Playing.{plays, ends};
 ghost use Rattle.audio_daemon.specs.Service.{state_of, endpoint_of};

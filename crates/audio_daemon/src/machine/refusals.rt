@@ -2,13 +2,13 @@
 
 ghost use Rattle.std.specs.Prelude.{◌≡◌, ◌≢◌, ℕ, Some, None, MatchResult, IfOk, IfNone, IfSome, length, ◌+◌, ◌*◌, ◌<◌, ◌≤◌, ◌^◌, false};
 ghost use Rattle.std.specs.Option.{option_map};
-ghost use Rattle.ca_model.specs.Rows.{first};
-ghost use Rattle.ca_machine.specs.Tables.{opening_rows, start_rows, get_buffer_rows, release_rows, open_plan, add_plan, activate_plan, initialize_plan, start_plan, get_buffer_plan, release_plan, period_plan, silent};
+ghost use Rattle.ca_base.specs.Rows.{first};
+ghost use Rattle.first_machine.specs.Tables.{opening_rows, start_rows, get_buffer_rows, release_rows, open_plan, add_plan, activate_plan, initialize_plan, start_plan, get_buffer_plan, release_plan, period_plan, silent};
 ghost use Rattle.std.specs.Prelude.{is_some, true};
-ghost use Rattle.ca_machine.specs.Moves.{stream_at};
-ghost use Rattle.ca_machine.specs.State.{client_of};
-ghost use Rattle.ca_machine.specs.Tables as table;
-ghost use Rattle.ca_machine.specs.Stage.{Stream as TheStream};
+ghost use Rattle.first_machine.specs.Moves.{stream_at};
+ghost use Rattle.first_machine.specs.State.{client_of};
+ghost use Rattle.first_machine.specs.Tables as table;
+ghost use Rattle.first_machine.specs.Stage.{Stream as TheStream};
 ghost use Rattle.audio_daemon.specs.Service.{state_of, channels_of, Holds};
 ghost use Rattle.audio_daemon.specs.Release.{MayRelease};
 ghost use Rattle.wave_format.specs.Format.{spelled};
@@ -117,7 +117,7 @@ impl Service {
             (λ f. (first (add_plan (state_of self.now) number.0 flow format.now name.now).rows ≡ None) × (f ≡ spelled format.now))
             (λ code. first (add_plan (state_of self.now) number.0 flow format.now name.now).rows ≡ Some code) }
         ensures free { IfOk result (λ f. (self.now.endpoint ≡ None) × (flow ≡ 0)) }
-        ensures lawful { IfOk result (λ f. (0 < f.channels) × (f.channels ≤ 4) × (f.rate ≤ 96000)) }
+        ensures valid { IfOk result (λ f. (0 < f.channels) × (f.channels ≤ 4) × (f.rate ≤ 96000)) }
     {
         if self.endpoint.is_some() || flow == 1 || is_extensible(format) {
             return Err(Hr::E_NOTIMPL);

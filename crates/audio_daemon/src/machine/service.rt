@@ -58,10 +58,11 @@ pub struct Service {
 impl Service {
     ghost use Rattle.std.specs.Prelude.{List, ◌++◌, is_some, not, MatchResult, IfErr, IfOk, IfSome, Some, ◌∷◌, []};
     ghost use Rattle.std.specs.Option.{option_map};
-    ghost use Rattle.ca_model.specs.Rows.{first, Row};
-    ghost use Rattle.ca_machine.specs.State.{is_connected, client_of, empty_state};
-    ghost use Rattle.ca_machine.specs.Moves.{stream_at, endpoint_at};
-    ghost use Rattle.ca_machine.specs.Tables.{connection_row, client_row, stream_rows};
+    ghost use Rattle.ca_base.specs.Rows.{first, Row};
+    ghost use Rattle.ca_base.specs.declared.codes.Hr.{Hr};
+    ghost use Rattle.first_machine.specs.State.{is_connected, client_of, empty_state};
+    ghost use Rattle.first_machine.specs.Moves.{stream_at, endpoint_at};
+    ghost use Rattle.first_machine.specs.Tables.{connection_row, client_row, stream_rows};
     ghost use Rattle.audio_daemon.specs.Service.{state_of, seen, channels_of, Holds};
 
     /// Nothing is there.
@@ -87,7 +88,8 @@ impl Service {
 
     /// Whether the client is a live client of the connection.
     pub fn has_client(&self, conn: ConnNo, client: ClientNo) -> bool
-        ensures { result ≡ is_some (client_of conn.0 client.0 (state_of self.now)) }
+        ensures value { result ≡ is_some (client_of conn.0 client.0 (state_of self.now)) }
+        ensures live { result ≡ true → option_map (λ c. c.number.0) self.now.client ≡ Some client.0 }
     {
         match (&self.endpoint, &self.client) {
             (Some(_), Some(live)) => live.number == client && live.connection == conn,
@@ -128,10 +130,10 @@ impl Service {
 
     /// The open stream of a live client of the connection, or the code of the first row that refuses a call of it.
     pub fn open_stream(&self, conn: ConnNo, client: ClientNo) -> Result<&Stream, Hr>
-        ensures err { IfErr result (λ code. (more : List Row) →
+        ensures err { IfErr result (λ code. (more : List (Row Hr)) →
             first (connection_row conn.0 (state_of self.now) ∷ client_row conn.0 client.0 (state_of self.now)
             ∷ stream_rows (stream_at client.0 (state_of self.now).stage) ++ more) ≡ Some code) }
-        ensures ok { IfOk result (λ stream. (more : List Row) →
+        ensures ok { IfOk result (λ stream. (more : List (Row Hr)) →
             first (connection_row conn.0 (state_of self.now) ∷ client_row conn.0 client.0 (state_of self.now)
             ∷ stream_rows (stream_at client.0 (state_of self.now).stage) ++ more) ≡ first more) }
         ensures stream { IfOk result (λ stream.

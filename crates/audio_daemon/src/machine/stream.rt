@@ -28,10 +28,10 @@ pub struct Stream {
 
 impl Stream {
     ghost use Rattle.std.specs.Prelude.{nat_lt, ◌-◌};
-    ghost use Rattle.ca_machine.specs.Stage.{padding, Endpoint, is_open_gate, period_frames};
+    ghost use Rattle.first_machine.specs.Stage.{padding, Endpoint, is_open_gate, period_frames};
     ghost use Rattle.audio_daemon.specs.Playing.{plays, due_bytes, due_frames, ends};
     ghost use Rattle.audio_daemon.specs.Streams.{stream_of, fresh};
-    ghost use Rattle.ca_machine.specs.Moves.{leases, releases, runs, picks, retires, closes};
+    ghost use Rattle.first_machine.specs.Moves.{leases, releases, runs, picks, retires, closes};
     ghost use Rattle.audio_daemon.specs.Words.{IsBlock};
     ghost use Rattle.wave_format.specs.Frame.{frame_bytes, frame_of, frames_from};
     ghost use Rattle.std.specs.List.{flat_map};

@@ -6,7 +6,7 @@ use Rattle.audio_daemon.proofs.run.run.Goals as goal
 pub returns-clause-ends : goal.returns-clause-ends
 returns-clause-ends g c =
     let machine = c.new-machine.result in
-    let after = c.answer_stream-end.new.desk in
+    let after = c.answer_events-end.new.desk in
     has_ended g.D.Devices.faults g.D.Devices.told c.args.words.now c.args.devices c.into_devices.result machine.devices after.devices
-    _ _ _ _ c.answer_stream-end.result c.into.result c.new-machine.ensures.devices c.into_devices.ensures c.into.ensures (sym c.are_replay.ensures ∙ c.if-not-are_replay.false)
-    (lifted g.D.Devices.faults g.D.Devices.told c.headline.ensures machine c.new-machine.ensures.state _ _ _ _ after c.answer_stream-end.result c.answer_stream-end.ensures.ends)
+    _ _ _ _ c.answer_events-end.result c.into.result c.new-machine.ensures.devices c.into_devices.ensures c.into.ensures (sym c.are_replay.ensures ∙ c.if-not-are_replay.false)
+    (lifted g.D.Devices.faults g.D.Devices.told c.headline.ensures machine c.new-machine.ensures.state _ _ _ _ after c.answer_events-end.result c.answer_events-end.ensures.ends)

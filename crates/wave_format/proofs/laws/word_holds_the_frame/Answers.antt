@@ -5,6 +5,7 @@ use Rattle.wave_format.proofs.laws.word_holds_the_frame.Goals as goal
 pub returns : goal.returns
 returns c = record {
   frame = λ channels samples h. rw (← h.count) (frame_back samples h.within);
-  sample = λ channels channel samples other h below. sample_of_word samples channel other h.within (omega (arith, h.count));
+  sample = λ channels channel samples other h below.
+      sample_of_word samples channel other h.within (omega (arith, h.count));
   fits = λ channels samples h. rw (← h.count) (word_fits samples h.within);
 }

@@ -7,6 +7,7 @@ use Rattle.wave_format.proofs.laws.word_is_its_frame.Goals as goal
 pub returns : goal.returns
 returns c = record {
   frame = frame_of-frame;
-  sample = λ channels channel word other below. get_or-map-range_with_len (sample_at word) 0 channels channel channel other below (omega arith);
+  sample = λ channels channel word other below.
+      get_or-map-range_with_len (sample_at word) 0 channels channel channel other below (omega arith);
   word = word_of-frame_of;
 }

@@ -1,8 +1,8 @@
 use Rattle.std.proofs.Common.{◌≡◌, ℕ, ◌+◌, ◌-◌, ◌*◌, List, [], ◌∷◌, ◌++◌, replicate, vec_len, refl, sym, ap, subst, ◌∙◌, arith}
 use Rattle.std.specs.List.{AllByRecursion}
 use Rattle.wave_format.specs.Frame.{IsFrame, frame_of}
-use Rattle.ca_machine.specs.Stage as stage
-use Rattle.ca_machine.specs.Tables.{bytes_due}
+use Rattle.first_machine.specs.Stage as stage
+use Rattle.first_machine.specs.Tables.{bytes_due}
 use Rattle.audio_daemon.specs.declared.machine.stream.Stream.{Stream}
 use Rattle.audio_daemon.specs.Streams.{stream_of}
 use Rattle.audio_daemon.specs.Playing.{due_bytes, due_frames}

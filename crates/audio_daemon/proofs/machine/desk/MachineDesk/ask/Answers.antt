@@ -1,7 +1,7 @@
 use Rattle.std.proofs.Common.{[], refl, ◌∙◌}
 use Rattle.ca_model.specs.declared.event.Event.TheVariants as event
-use Rattle.ca_machine.specs.Tables.{open_plan}
-use Rattle.ca_machine.specs.Step.{device_plan}
+use Rattle.first_machine.specs.Tables.{open_plan}
+use Rattle.first_machine.specs.Step.{device_plan}
 use Rattle.audio_daemon.specs.Service.{state_of}
 use Rattle.audio_daemon.proofs.Asked.{asked, seen_of}
 use Rattle.audio_daemon.proofs.Gets.{gets_same}
@@ -29,7 +29,7 @@ returns-in-Period-clause-step g c =
     let m = c.self.inside in
     let a = c.in-Period in
     asked g.D.Devices.faults g.D.Devices.told (seen_of m.devices m.service) _ _ c.args.self.now (event.Period a.endpoint) c.args.ev.now c.self.view_is a.is
-    c.answer_period-out.ensures refl refl refl
+    c.answer_period-out.ensures.table refl refl refl
 
 pub returns-in-Device-clause-step : goal.returns-in-Device-clause-step
 returns-in-Device-clause-step g c =

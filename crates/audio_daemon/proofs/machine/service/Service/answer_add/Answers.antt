@@ -1,7 +1,7 @@
 use Rattle.std.proofs.Common.{ℕ, [], refl, sym, ap, ◌∙◌}
 use Rattle.wave_format.specs.declared.format.Format.{Format}
 use Rattle.wave_format.specs.Format.{spelled}
-use Rattle.ca_machine.specs.Tables.{add_plan}
+use Rattle.first_machine.specs.Tables.{add_plan}
 use Rattle.audio_daemon.specs.Service.{state_of}
 use Rattle.audio_daemon.specs.Actions.{added_state}
 use Rattle.audio_daemon.proofs.Gets.{gets_found, gets_short}

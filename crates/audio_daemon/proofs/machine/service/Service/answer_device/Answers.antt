@@ -1,6 +1,6 @@
 use Rattle.std.proofs.Common.{ℕ, List, refl, sym, ap, ◌∙◌}
-use Rattle.ca_machine.specs.Step.{device_plan}
-use Rattle.ca_machine.specs.Tables.{add_plan}
+use Rattle.first_machine.specs.Step.{device_plan}
+use Rattle.first_machine.specs.Tables.{add_plan}
 use Rattle.audio_daemon.specs.Service.{state_of}
 use Rattle.audio_daemon.proofs.Gets.{gets_same}
 use Rattle.audio_daemon.proofs.machine.service.Service.answer_device.Goals as goal

@@ -1,5 +1,5 @@
 use Rattle.std.proofs.Common.{[], refl, sym}
-use Rattle.ca_machine.specs.Tables.{get_buffer_plan}
+use Rattle.first_machine.specs.Tables.{get_buffer_plan}
 use Rattle.audio_daemon.specs.Service.{state_of}
 use Rattle.audio_daemon.proofs.Gets.{gets_refused, gets_plain}
 use Rattle.audio_daemon.proofs.machine.service.Service.answer_get_buffer.Goals as goal

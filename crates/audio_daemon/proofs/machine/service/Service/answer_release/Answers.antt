@@ -1,7 +1,7 @@
 use Rattle.std.proofs.Common.{[], refl, sym}
-use Rattle.ca_machine.specs.Tables.{release_plan}
+use Rattle.first_machine.specs.Tables.{release_plan}
 use Rattle.audio_daemon.specs.Service.{state_of}
-use Rattle.ca_machine.specs.Moves.{stream_at}
+use Rattle.first_machine.specs.Moves.{stream_at}
 use Rattle.audio_daemon.proofs.Granted.{stream_is_there, release_granted}
 use Rattle.audio_daemon.proofs.Gets.{gets_refused, gets_plain}
 use Rattle.audio_daemon.proofs.machine.service.Service.answer_release.Goals as goal

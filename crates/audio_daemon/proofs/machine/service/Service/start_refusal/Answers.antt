@@ -1,6 +1,6 @@
 use Rattle.std.proofs.Common.{sym, ◌∙◌}
-use Rattle.ca_machine.specs.Moves.{stream_at}
-use Rattle.ca_machine.specs.Tables.{start_rows}
+use Rattle.first_machine.specs.Moves.{stream_at}
+use Rattle.first_machine.specs.Tables.{start_rows}
 use Rattle.audio_daemon.specs.Streams.{stream_of}
 use Rattle.audio_daemon.specs.Service.{state_of, last_of, channels_of}
 use Rattle.audio_daemon.proofs.Rows.{start_first}

@@ -2,7 +2,7 @@ use Rattle.std.proofs.Common.{◌≡◌, ℕ, ◌++◌, min, take, refl, sym, ap
 use Rattle.std.specs.List.{flat_map}
 use Rattle.std.proofs.lemmas.List.{length-map}
 use Rattle.wave_format.specs.Frame.{frame_bytes}
-use Rattle.ca_machine.specs.Stage as stage
+use Rattle.first_machine.specs.Stage as stage
 use Rattle.audio_daemon.specs.Streams.{stream_of}
 use Rattle.audio_daemon.proofs.Playing.{has_played, has_due}
 use Rattle.audio_daemon.proofs.machine.stream.Stream.play_due.Goals as goal

@@ -1,0 +1,3 @@
+pub mod Windows
+pub mod Turns
+pub mod Finishes

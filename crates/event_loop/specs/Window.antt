@@ -1,0 +1,9 @@
+-- Where the pending bytes stand in their buffer: no promise cites it, and only the proofs need it. This project's own.
+use Rattle.std.specs.Prelude.{ℕ, ◌+◌, ◌≤◌}
+use Rattle.ca_base.specs.declared.limits.TheConstants.{LENGTH_SIZE, LONGEST_BODY, READ_SIZE}
+
+-- from start to end, in a buffer that has at most a frame and a piece
+pub record IsWindow (start end size : ℕ) : Type 0 where
+  pub ordered : start ≤ end
+  pub within : end ≤ size
+  pub bounded : size ≤ LENGTH_SIZE + LONGEST_BODY + READ_SIZE
