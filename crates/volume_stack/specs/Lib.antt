@@ -1,0 +1,3 @@
+pub mod Scaling
+pub mod Gains
+pub mod Sums
