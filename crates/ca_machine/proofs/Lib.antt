@@ -1,0 +1,13 @@
+pub mod LiveClients
+pub mod PeriodMoves
+pub mod PresentStage
+pub mod Playheads
+pub mod StateInOrder
+pub mod SoundsTaken
+pub mod FramesHanded
+pub mod Outcomes
+pub mod Events
+pub mod Runs
+pub mod RunsHaveHeadline
+pub mod WorkedTurns
+mod Worked

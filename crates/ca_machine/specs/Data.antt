@@ -1,0 +1,89 @@
+-- Data calls: GetCurrentPadding, GetBuffer, ReleaseBuffer (IAudioClient, IAudioRenderClient). Their rows are those of a
+-- client's side over what is seen of its store.
+use Rattle.std.specs.Prelude.{ℕ, ◌*◌, ◌==◌, List, [], ◌∷◌, ◌++◌, length, replicate, pos, false, Option, Some, None}
+use Rattle.std.specs.Prelude.{if◌then◌else◌}
+use Rattle.std.specs.Int.{w32, to_le_bytes}
+use Rattle.ca_base.specs.declared.codes.Hr.{Hr}
+use Rattle.ca_base.specs.declared.ids.Dir.{Dir}
+use Rattle.ca_base.specs.declared.ids.Dir.TheVariants as dir
+use Rattle.ca_base.specs.declared.ids.Gate.TheVariants as gate
+use Rattle.ca_base.specs.declared.ids.Seen.{Seen}
+use Rattle.ca_base.specs.declared.ids.StreamKind.{StreamKind}
+use Rattle.ca_base.specs.declared.ids.StreamKind.TheVariants as kind
+use Rattle.ca_base.specs.declared.values.TheConstants.{BUFFER_SILENT}
+use Rattle.ca_base.specs.Rows.{Row}
+use Rattle.wave_format.specs.Frame.{frames_from}
+use Rattle.client_state.specs.declared.check.DataCall.{DataCall}
+use Rattle.client_state.specs.declared.check.DataCall.TheVariants as data_call
+use Rattle.client_state.specs.declared.side.ClientSide.{ClientSide}
+use Rattle.client_state.specs.Rows.{side_rows}
+use Rattle.ca_stage.specs.Stage.{Frame, Stream, padding}
+use Rattle.ca_stage.specs.Moves.{of_client, leased, released, stream_at}
+use Rattle.ca_machine.specs.State.{State}
+use Rattle.ca_machine.specs.Plan.{Outcome, Plan, plain, answered, granted}
+use Rattle.ca_machine.specs.SharedRows.{data_call_rows, client_rows, with_stream}
+
+-- which way the frames of a stream go
+abbrev pub dir_of : StreamKind → Dir
+dir_of kind.Render = dir.Render
+dir_of kind.Capture = dir.Capture
+dir_of kind.Loopback = dir.Capture
+
+-- the client's side of a stream, and that of a client that isn't initialised
+abbrev pub side_of : Option Stream → ClientSide
+side_of (Some s) = record {
+  dir = dir_of s.kind;
+  exclusive = s.exclusive;
+  event = s.event_driven;
+  buffer = s.buffer;
+  period = s.period;
+  store_frames = s.capacity;
+  block = s.channels * 2;
+  lease = s.buffer_data.lease;
+  released = s.buffer_data.released;
+}
+side_of None = record {
+  dir = dir.Render;
+  exclusive = false;
+  event = false;
+  buffer = 0;
+  period = 0;
+  store_frames = 0;
+  block = 0;
+  lease = None;
+  released = 0;
+}
+
+-- what a look at a stream's store finds: a word for each pending frame, and the gate
+abbrev pub seen_of : Option Stream → Seen
+seen_of (Some s) = record { words = padding s; gate = s.gate }
+seen_of None = record { words = 0; gate = gate.Open }
+
+-- the rows of a data call over the client's stream
+abbrev pub data_rows : DataCall → Option Stream → List (Row Hr)
+data_rows call stream = side_rows (side_of stream) call (seen_of stream)
+
+abbrev pub data_plan : State → ℕ → ℕ → DataCall → (Stream → Outcome) → Plan
+data_plan st conn client call outcome = plain
+    (data_call_rows conn st ++ client_rows conn client st ++ data_rows call (stream_at client st.stage))
+    (with_stream st (stream_at client st.stage) outcome)
+
+abbrev pub get_current_padding_plan : State → ℕ → ℕ → Plan
+get_current_padding_plan st conn client =
+    data_plan st conn client data_call.Padding (λ s. answered st (to_le_bytes w32 (padding s)))
+
+abbrev pub get_buffer_plan : State → ℕ → ℕ → ℕ → Plan
+get_buffer_plan st conn client frames =
+    data_plan st conn client (data_call.Get frames) (λ s. granted [] (of_client client (leased frames) ∷ []) st)
+
+-- the frames that are released: zeros if they are silent (AUDCLNT_BUFFERFLAGS_SILENT)
+abbrev pub frames_released : ℕ → ℕ → List ℕ → ℕ → List Frame
+frames_released frames flags bytes channels =
+    if flags == BUFFER_SILENT
+    then replicate frames (replicate channels (pos 0))
+    else frames_from frames channels bytes
+
+abbrev pub release_buffer_plan : State → ℕ → ℕ → ℕ → ℕ → List ℕ → Plan
+release_buffer_plan st conn client frames flags bytes =
+    data_plan st conn client (data_call.Release frames flags (length bytes))
+    (λ s. granted [] (of_client client (released (frames_released frames flags bytes s.channels)) ∷ []) st)

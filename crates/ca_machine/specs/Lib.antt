@@ -1,0 +1,11 @@
+pub mod State
+pub mod Plan
+pub mod SharedRows
+pub mod Clients
+pub mod Streams
+pub mod Data
+pub mod Devices
+pub mod Periods
+pub mod Step
+pub mod View
+pub mod Headline

@@ -1,0 +1,77 @@
+-- A period of an endpoint (this project's own).
+use Rattle.std.specs.Prelude.{ℕ, ◌+◌, ◌==◌, not, nat_lt, List, [], ◌∷◌, ◌++◌, length, map, Bool, true, false}
+use Rattle.std.specs.Prelude.{Option, Some, None, if◌then◌else◌}
+use Rattle.std.specs.Int.{w32, to_le_bytes}
+use Rattle.ca_base.specs.declared.codes.Hr.{Hr}
+use Rattle.ca_base.specs.declared.codes.TheConstants.Hr as hr
+use Rattle.ca_base.specs.declared.limits.TheConstants.{MAX_COUNT, SHARED_PERIOD}
+use Rattle.ca_base.specs.declared.values.TheConstants.{STATE_ACTIVE, STATE_NOTPRESENT}
+use Rattle.ca_base.specs.Rows.{Row}
+use Rattle.wave_format.specs.Format.{frames_of_time}
+use Rattle.volume_stack.specs.Scaling.{unit_gain}
+use Rattle.ca_stage.specs.Stage.{Stage}
+use Rattle.ca_stage.specs.Moves.{Mixing, after_moves, picks, sub_steps}
+use Rattle.ca_stage.specs.Mix.{sound_bytes}
+use Rattle.ca_stage.specs.Fates.{next_of}
+use Rattle.ca_machine.specs.declared.state.Endpoint.{Endpoint}
+use Rattle.ca_machine.specs.State.{State, is_endpoint, endpoint_at}
+use Rattle.ca_machine.specs.Plan.{Outcome, Plan, Answer, plain, refused, moved, is_whole, pieces}
+use Rattle.ca_machine.specs.Plan.Asked.{writing}
+
+-- the frames of an endpoint's period
+abbrev pub period_frames : Endpoint → ℕ
+period_frames e = frames_of_time e.format.rate SHARED_PERIOD
+
+-- what a period of an endpoint mixes by, in this state: its frames and channels, and all gains
+abbrev pub mixing_of : State → Endpoint → Mixing
+mixing_of st e = record {
+  endpoint = e.endpoint.0;
+  frames = period_frames e;
+  channels = e.format.channels;
+  gain = λ client channel. unit_gain;
+  endpoint_gain = λ channel. unit_gain;
+}
+
+-- the bytes that a period sounds: the mix of what its sub-steps pick
+abbrev pub bytes_due : Mixing → Stage → List ℕ
+bytes_due m stage = sound_bytes m (after_moves stage (picks m stage)).streams
+
+-- a period that sounded: its frames, or none if the device failed, and whether it failed
+abbrev pub period_payload : Mixing → Bool → List ℕ
+period_payload m true = to_le_bytes w32 m.frames ++ 0 ∷ []
+period_payload m false = to_le_bytes w32 0 ++ 1 ∷ []
+
+-- the endpoints after a period: one whose device failed is NOTPRESENT
+abbrev pub with_failed : ℕ → List Endpoint → List Endpoint
+with_failed number endpoints =
+    map (λ e. if is_endpoint number e then record e { state = STATE_NOTPRESENT } else e) endpoints
+
+abbrev pub after_period : ℕ → Bool → State → State
+after_period number true st = st
+after_period number false st = record st { endpoints = with_failed number st.endpoints }
+
+abbrev pub sounding : State → Mixing → List Answer → Outcome
+sounding st m given = record {
+  result = hr.S_OK;
+  payload = period_payload m (is_whole given);
+  moves = sub_steps m (is_whole given) st.stage;
+  output = pieces m.endpoint (bytes_due m st.stage) given;
+  after = after_period m.endpoint (is_whole given) (moved (sub_steps m (is_whole given) st.stage) st);
+}
+
+abbrev pub period_rows : State → Endpoint → List (Row Hr)
+period_rows st e =
+    (not (e.state == STATE_ACTIVE), hr.DEVICE_INVALIDATED)
+    ∷ (nat_lt MAX_COUNT (next_of e.endpoint.0 st.stage + period_frames e), hr.WORN)
+    ∷ []
+
+abbrev pub period_of : State → Option Endpoint → Plan
+period_of st None = plain ((true, hr.E_NOTFOUND) ∷ []) (refused st hr.E_NOTFOUND)
+period_of st (Some e) = record {
+  rows = period_rows st e;
+  asks = writing (length (bytes_due (mixing_of st e) st.stage));
+  grants = sounding st (mixing_of st e);
+}
+
+abbrev pub period_plan : State → ℕ → Plan
+period_plan st number = period_of st (endpoint_at number st)

@@ -1,0 +1,281 @@
+-- Control calls of a client's stream (IAudioClient, IAudioClock; the order of the rows, the sizes of buffers and the
+-- default session's number are this project's own).
+use Rattle.std.specs.Prelude.{ℕ, ◌+◌, ◌*◌, ◌/◌, ◌%◌, ◌==◌, ◌&&◌, ◌||◌, not, nat_lt, nat_le, min, max}
+use Rattle.std.specs.Prelude.{List, [], ◌∷◌, ◌++◌, length, Bool, true, false, Option, Some, None, is_some}
+use Rattle.std.specs.Prelude.{if◌then◌else◌}
+use Rattle.std.specs.Option.{option_map_or}
+use Rattle.std.specs.Int.{w16, w32, w64, to_le_bytes}
+use Rattle.ca_base.specs.declared.codes.Hr.{Hr}
+use Rattle.ca_base.specs.declared.codes.TheConstants.Hr as hr
+use Rattle.ca_base.specs.declared.ids.Gate.TheVariants as gate
+use Rattle.ca_base.specs.declared.ids.StreamKind.TheVariants as kind
+use Rattle.ca_base.specs.declared.limits.TheConstants.{
+  MAX_COUNT,
+  MAX_SHARED_BUFFER_SECONDS,
+  MAX_TIME,
+  MIN_EXCLUSIVE_PERIOD,
+  SESSIONS,
+  SHARED_PERIOD,
+}
+use Rattle.ca_base.specs.declared.values.TheConstants.{SHARE_EXCLUSIVE}
+use Rattle.ca_base.specs.Rows.{Row, first}
+use Rattle.wave_format.specs.declared.format.Format.{Format}
+use Rattle.wave_format.specs.Format.{fault_rows, spelled, spelling, frames_of_time}
+use Rattle.ca_stage.specs.Stage.{Stream, padding, no_data, is_render}
+use Rattle.ca_stage.specs.Moves.{of_client, opened, started, stopped, reset, stream_at}
+use Rattle.ca_machine.specs.declared.state.Client.{Client}
+use Rattle.ca_machine.specs.declared.state.Endpoint.{Endpoint}
+use Rattle.ca_machine.specs.declared.state.Session.{Session}
+use Rattle.ca_machine.specs.State.{State, connection_at, client_of, session_of}
+use Rattle.ca_machine.specs.Plan.{Outcome, Plan, plain, with_memory, answered, granted, refused}
+use Rattle.ca_machine.specs.SharedRows.{
+  control_rows,
+  client_rows,
+  if_stream,
+  stream_plan,
+  no_rows,
+  invalidated_rows,
+  endpoint_of,
+  with_endpoint,
+}
+
+-- ---- formats
+
+-- the first fault of a format's bytes
+abbrev pub fault_of : List ℕ → Option ℕ
+fault_of bytes = first (fault_rows bytes)
+
+-- the bytes are no format at all; they are one that the service doesn't take
+abbrev pub is_malformed : List ℕ → Bool
+is_malformed bytes = option_map_or (λ fault. nat_le fault 2) (fault_of bytes) false
+
+abbrev pub is_faulty : List ℕ → Bool
+is_faulty bytes = is_some (fault_of bytes)
+
+-- two formats match if channels and rate are equal
+abbrev pub matches : Format → Format → Bool
+matches a b = a.channels == b.channels && a.rate == b.rate
+
+abbrev pub has_no_match : Option Endpoint → List ℕ → Bool
+has_no_match None bytes = true
+has_no_match (Some e) bytes = not (matches e.format (spelled bytes))
+
+-- a format in a payload: two bytes of length, and its bytes
+abbrev pub format_payload : Format → List ℕ
+format_payload format = to_le_bytes w16 (length (spelling format)) ++ spelling format
+
+-- ---- Initialize
+
+-- CROSSPROCESS, LOOPBACK, EVENTCALLBACK and NOPERSIST, bits 16 to 19, come with later parts of the service
+abbrev pub has_later_flag : ℕ → Bool
+has_later_flag flags = not (flags / 65536 % 16 == 0)
+
+-- flags other than those four
+abbrev pub has_other_flag : ℕ → Bool
+has_other_flag flags = not (flags % 65536 == 0) || not (flags / 1048576 == 0)
+
+-- a time that REFERENCE_TIME doesn't have
+abbrev pub is_too_long : ℕ → Bool
+is_too_long time = nat_lt MAX_TIME time
+
+-- the frames of a shared stream's buffer for a duration: at least two periods, and at most two seconds unless these are
+-- more
+abbrev pub shared_buffer : ℕ → ℕ → ℕ
+shared_buffer rate duration =
+    max (2 * frames_of_time rate SHARED_PERIOD) (min (frames_of_time rate duration) (MAX_SHARED_BUFFER_SECONDS * rate))
+
+-- the arguments of an Initialize
+pub record Opening : Type 0 where
+  pub share : ℕ
+  pub flags : ℕ
+  pub duration : ℕ
+  pub period : ℕ
+  pub format : List ℕ
+  pub session : ℕ
+
+-- the stream that a client opens
+abbrev pub new_stream : Client → Opening → ℕ → Stream
+new_stream client x session = record {
+  client = client.client.0;
+  endpoint = client.endpoint.0;
+  kind = kind.Render;
+  exclusive = false;
+  event_driven = false;
+  channels = (spelled x.format).channels;
+  rate = (spelled x.format).rate;
+  buffer = shared_buffer (spelled x.format).rate x.duration;
+  period = frames_of_time (spelled x.format).rate SHARED_PERIOD;
+  capacity = shared_buffer (spelled x.format).rate x.duration;
+  latency = SHARED_PERIOD;
+  session = session;
+  running = false;
+  gate = gate.Open;
+  picked = 0;
+  position = 0;
+  buffer_data = no_data;
+}
+
+-- the process of a connection
+abbrev pub process_of : ℕ → State → ℕ
+process_of conn st = option_map_or (λ c. c.process) (connection_at conn st) 0
+
+-- the session that a client's stream joins, if it is there
+abbrev pub session_found : State → ℕ → Option Client → Opening → Option Session
+session_found st conn None x = None
+session_found st conn (Some client) x = session_of client.endpoint.0 (process_of conn st) x.session st
+
+-- it would be a new one, and a test holds
+abbrev pub if_new : Option Session → Bool → Bool
+if_new None test = test
+if_new (Some session) test = false
+
+-- values that come with later parts of the service
+abbrev pub later_rows : Opening → List (Row Hr)
+later_rows x = (x.share == SHARE_EXCLUSIVE || (has_later_flag x.flags || not (x.session == 0)), hr.E_NOTIMPL) ∷ []
+
+-- the rows over the client that was found, and its stream
+abbrev pub opening_rows : State → ℕ → Option Client → Option Stream → Opening → List (Row Hr)
+opening_rows st conn client stream x =
+    invalidated_rows st client stream
+    ++ (is_some stream, hr.ALREADY_INITIALIZED)
+    ∷ (
+      nat_lt SHARE_EXCLUSIVE x.share
+          || (has_other_flag x.flags || (is_too_long x.duration || is_too_long x.period)),
+      hr.E_INVALIDARG,
+    )
+    ∷ (is_malformed x.format, hr.E_INVALIDARG)
+    ∷ (is_faulty x.format || has_no_match (endpoint_of st client) x.format, hr.UNSUPPORTED_FORMAT)
+    ∷ (if_new (session_found st conn client x) (nat_le SESSIONS (length st.sessions)), hr.SESSIONS_FULL)
+    ∷ (if_new (session_found st conn client x) (nat_le MAX_COUNT st.sessions_made), hr.WORN)
+    ∷ []
+
+abbrev pub initialize_rows : State → ℕ → ℕ → Opening → List (Row Hr)
+initialize_rows st conn client x =
+    control_rows conn st ++ later_rows x ++ client_rows conn client st
+    ++ opening_rows st conn (client_of conn client st) (stream_at client st.stage) x
+
+-- a session of an endpoint, a process and a GUID
+abbrev pub new_session : ℕ → ℕ → ℕ → ℕ → Session
+new_session session endpoint process guid = record {
+  session = record { 0 = session };
+  endpoint = record { 0 = endpoint };
+  process = process;
+  guid = record { 0 = guid };
+}
+
+-- a new session is made
+abbrev pub with_session : State → ℕ → Client → Opening → State
+with_session st conn client x = record st {
+  sessions = st.sessions
+      ++ new_session (st.sessions_made + 1) client.endpoint.0 (process_of conn st) x.session ∷ [];
+  sessions_made = st.sessions_made + 1;
+}
+
+-- a stream is opened in a session
+abbrev pub opened_in : State → Client → Opening → ℕ → Outcome
+opened_in st client x session =
+    granted (to_le_bytes w64 session) (opened (new_stream client x session) ∷ []) st
+
+-- it joins the session that was found, or a new one
+abbrev pub joined : State → ℕ → Client → Opening → Option Session → Outcome
+joined st conn client x (Some session) = opened_in st client x session.session.0
+joined st conn client x None = opened_in (with_session st conn client x) client x (st.sessions_made + 1)
+
+abbrev pub initialized : State → ℕ → Option Client → Opening → Outcome
+initialized st conn None x = refused st hr.E_HANDLE
+initialized st conn (Some client) x = joined st conn client x (session_found st conn (Some client) x)
+
+abbrev pub initialize_plan : State → ℕ → ℕ → Opening → Plan
+initialize_plan st conn client x =
+    with_memory st (initialize_rows st conn client x) (initialized st conn (client_of conn client st) x)
+
+-- ---- calls that tell
+
+abbrev pub get_buffer_size_plan : State → ℕ → ℕ → Plan
+get_buffer_size_plan st conn client =
+    stream_plan st conn client no_rows (λ s. answered st (to_le_bytes w32 s.buffer))
+
+abbrev pub get_stream_latency_plan : State → ℕ → ℕ → Plan
+get_stream_latency_plan st conn client =
+    stream_plan st conn client no_rows (λ s. answered st (to_le_bytes w64 s.latency))
+
+abbrev pub get_position_plan : State → ℕ → ℕ → Plan
+get_position_plan st conn client =
+    stream_plan st conn client no_rows (λ s. answered st (to_le_bytes w64 s.position ++ to_le_bytes w64 s.rate))
+
+-- the rows of calls on what a client may open: its stream may be open or not
+abbrev pub endpoint_rows : State → ℕ → ℕ → List (Row Hr)
+endpoint_rows st conn client =
+    client_rows conn client st ++ invalidated_rows st (client_of conn client st) (stream_at client st.stage)
+
+abbrev pub get_mix_format_plan : State → ℕ → ℕ → Plan
+get_mix_format_plan st conn client = plain (control_rows conn st ++ endpoint_rows st conn client)
+    (with_endpoint st (endpoint_of st (client_of conn client st)) (λ e. answered st (format_payload e.format)))
+
+abbrev pub get_device_period_plan : State → ℕ → ℕ → Plan
+get_device_period_plan st conn client = plain (control_rows conn st ++ endpoint_rows st conn client)
+    (answered st (to_le_bytes w64 SHARED_PERIOD ++ to_le_bytes w64 MIN_EXCLUSIVE_PERIOD))
+
+-- IAudioClient::IsFormatSupported of a shared stream: yes, or S_FALSE with the closest format, which is the endpoint's
+abbrev pub supported : State → List ℕ → Endpoint → Outcome
+supported st bytes e =
+    if is_faulty bytes || not (matches e.format (spelled bytes))
+    then record (answered st (format_payload e.format)) { result = hr.S_FALSE }
+    else answered st []
+
+abbrev pub is_format_supported_plan : State → ℕ → ℕ → ℕ → List ℕ → Plan
+is_format_supported_plan st conn client share bytes = plain
+    (control_rows conn st
+    ++ (share == SHARE_EXCLUSIVE, hr.E_NOTIMPL)
+    ∷ endpoint_rows st conn client
+    ++ (nat_lt SHARE_EXCLUSIVE share || is_malformed bytes, hr.E_INVALIDARG)
+    ∷ [])
+    (with_endpoint st (endpoint_of st (client_of conn client st)) (supported st bytes))
+
+-- services by number (own): 1 renders, 2 captures; 3 to 7 are there for every stream
+abbrev pub is_service : ℕ → Bool
+is_service service = nat_le 1 service && nat_le service 7
+
+abbrev pub is_of_other_kind : ℕ → Stream → Bool
+is_of_other_kind service s = service == 1 && not (is_render s.kind) || service == 2 && is_render s.kind
+
+abbrev pub get_service_rows : ℕ → Option Stream → List (Row Hr)
+get_service_rows service stream =
+    (not (is_service service), hr.E_NOINTERFACE)
+    ∷ (if_stream (is_of_other_kind service) stream, hr.WRONG_ENDPOINT_TYPE)
+    ∷ []
+
+abbrev pub get_service_plan : State → ℕ → ℕ → ℕ → Plan
+get_service_plan st conn client service =
+    stream_plan st conn client (get_service_rows service) (λ s. answered st [])
+
+-- ---- Start, Stop and Reset
+
+abbrev pub start_rows : Option Stream → List (Row Hr)
+start_rows stream = (if_stream (λ s. s.running) stream, hr.NOT_STOPPED) ∷ []
+
+abbrev pub start_plan : State → ℕ → ℕ → Plan
+start_plan st conn client =
+    stream_plan st conn client start_rows (λ s. granted [] (of_client client started ∷ []) st)
+
+abbrev pub stop_rows : Option Stream → List (Row Hr)
+stop_rows stream = (if_stream (λ s. not s.running) stream, hr.S_FALSE) ∷ []
+
+abbrev pub stop_plan : State → ℕ → ℕ → Plan
+stop_plan st conn client =
+    stream_plan st conn client stop_rows (λ s. granted [] (of_client client stopped ∷ []) st)
+
+-- there is nothing to throw away
+abbrev pub is_at_start : Stream → Bool
+is_at_start s = padding s == 0 && s.position == 0
+
+abbrev pub reset_rows : Option Stream → List (Row Hr)
+reset_rows stream =
+    (if_stream (λ s. s.running) stream, hr.NOT_STOPPED)
+    ∷ (if_stream (λ s. is_some s.buffer_data.lease) stream, hr.BUFFER_OPERATION_PENDING)
+    ∷ (if_stream is_at_start stream, hr.S_FALSE)
+    ∷ []
+
+abbrev pub reset_plan : State → ℕ → ℕ → Plan
+reset_plan st conn client =
+    stream_plan st conn client reset_rows (λ s. granted [] (of_client client reset ∷ []) st)

@@ -1,0 +1,31 @@
+//! The headline of the machine: what holds of each of its runs, as contracts of empty functions.
+ghost use Rattle.ca_machine.specs.Headline.{RunsGoOn, RunsHaveHeadline};
+
+use ca_stage::laws;
+
+/// A run and a run from its last state are one run.
+#[tactic(auto, using(crate::proofs::Runs::runs_go_on))]
+pub fn run_goes_on()
+    ensures { RunsGoOn }
+{}
+
+/// Each released frame is rendered, padding, reset or dropped for a reason, once and in order; each mixed frame is the
+/// clamped sum of the frames due, each times the gains of that moment; nothing of a stream sounds after its disconnect;
+/// and devices get the mixed frames' bytes.
+pub fn headline()
+    ensures { RunsHaveHeadline }
+{
+    // The laws of the stage, of which the headline is made.
+    laws::conservation();
+    laws::totals();
+    laws::tallies();
+    laws::closed_is_empty();
+    laws::positions();
+    laws::one_sound();
+    laws::nothing_ahead();
+    laws::places_rise();
+    laws::mix_sums();
+    laws::silence();
+    laws::present_is_whole();
+    laws::present_goes_on();
+}

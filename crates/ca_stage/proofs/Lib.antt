@@ -1,0 +1,25 @@
+pub mod Lists
+pub mod Streams
+pub mod Conservation
+pub mod Clients
+pub mod Playheads
+pub mod Holds
+pub mod Counting
+pub mod Positions
+pub mod Silence
+pub mod Mixing
+pub mod Phases
+pub mod SubSteps
+pub mod Walk
+pub mod Stages
+pub mod Places
+pub mod Flights
+pub mod Landings
+pub mod Begun
+pub mod Sums
+pub mod Once
+pub mod Rise
+pub mod Presence
+pub mod Periods
+mod Worked
+mod WorkedMix

@@ -1,0 +1,5 @@
+use Rattle.ca_stage.proofs.Holds as Lemmas
+use Rattle.ca_stage.proofs.laws.stage_holds.Goals as goal
+
+pub returns : goal.returns
+returns c = Lemmas.stage_holds

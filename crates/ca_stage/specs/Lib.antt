@@ -1,0 +1,9 @@
+pub mod Stage
+pub mod Moves
+pub mod Mix
+pub mod Fates
+pub mod Woven
+pub mod Tally
+pub mod Order
+pub mod Present
+pub mod Laws
