@@ -35,7 +35,8 @@ class Bench(unittest.TestCase):
                 size = frames * channels * 2
                 source = bench.bulk_data(self.folder / "events", 3 * size + 1, rate, channels)
                 events = self.events(source)[5:]
-                self.assertEqual([event.name for event in events], (["GetBuffer", "ReleaseBuffer"] + ["Period"] * 10) * 3)
+                names = ["GetBuffer", "ReleaseBuffer"] + ["Period"] * 10
+                self.assertEqual([event.name for event in events], names * 3)
                 self.assertEqual([len(event.values["bytes"]) for event in events[1::12]], [size] * 3)
                 self.assertEqual(source.played, 3 * size)
 

@@ -363,7 +363,7 @@ period endpoint=1
 """
 
     def ends(self, done, status, line):
-        """What was written to standard output, where the tool ended with a status and one line."""
+        """What was written to standard output, if the tool ended with a status and one line."""
         self.assertEqual((done.returncode, done.stderr.decode()), (status, line))
         return done.stdout.decode() if done.stdout else ""
 
@@ -371,6 +371,17 @@ period endpoint=1
         replies, sent = (PLACE / "stdout").read_bytes(), (PLACE / "stdin").read_bytes()
         self.assertEqual(self.ends(tool("show", stdin=replies), 0, ""), self.REPLIES)
         self.assertEqual(self.ends(tool("show", "--events", stdin=sent), 0, ""), self.EVENTS)
+
+    def test_show_of_a_run(self):
+        with tempfile.TemporaryDirectory() as folder:
+            data = range(480), range(0, -480, -1)
+            samples = [sample & 0xFFFF for frame in zip(*data) for sample in frame]
+            played = b"".join(sample.to_bytes(2, "little") for sample in samples)
+            (Path(folder) / "endpoint-1.pcm").write_bytes(played)
+            done = tool("show", str(PLACE / "stdin"), str(PLACE / "stdout"), folder)
+        self.assertEqual(self.ends(done, 0, ""), (TOOLS.parent / "examples/hello.expected").read_text())
+        done = tool("show", str(PLACE / "stdin"), "no/replies", str(TOOLS))
+        self.assertEqual(self.ends(done, 2, "no/replies: No such file or directory\n"), "")
 
     def test_show_of_other_results(self):
         frames = "0a000000" "03" "01" "01000000" "01008988" "0a000000" "01" "02" "00000000" "efbeadde"
@@ -393,7 +404,8 @@ period endpoint=1
         self.assertEqual(self.ends(done, 2, "-:2:1: endpoint is missing\n"), "")
 
     def test_wrong_words(self):
-        usage = "usage: events spell SCRIPT | show [--events] | run SCRIPT [--program PATH] | --help\n"
+        usage = ("usage: events spell SCRIPT | show [--events | EVENTS REPLIES FOLDER] | run SCRIPT [--program PATH]"
+                 " | --help\n")
         for words in ((), ("spell",), ("show", "file"), ("run", "x", "--program"), ("replay", "x")):
             with self.subTest(words):
                 self.assertEqual(self.ends(tool(*words), 2, usage), "")
@@ -408,7 +420,7 @@ period endpoint=1
 
     def test_a_program_that_is_not_there(self):
         done = tool("run", "-", "--program", "no/program", stdin=b"period 1\n")
-        self.assertEqual(self.ends(done, 2, "no/program: no program is there; ./first-run builds it\n"), "")
+        self.assertEqual(self.ends(done, 2, "no/program: no program is there; ./first-run --proved builds it\n"), "")
 
     def test_run_of_a_program_that_stops(self):
         script = "add 1 render rate=48000 channels=1 name=x\ncall code=5 rest=00\nperiod 1\n"

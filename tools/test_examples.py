@@ -1,6 +1,7 @@
 """Every script of examples/, run on the built program, prints what is stored beside it.
 
-The program is PEHVONK_PROGRAM, or the one that ./first-run leaves in the repository. Without it this fails.
+The program is PEHVONK_PROGRAM, or the one that the repository's gate or ./first-run --proved leaves. Without it this
+fails.
 """
 import os
 import subprocess
@@ -17,7 +18,7 @@ class Examples(unittest.TestCase):
 
     def test_examples(self):
         if not os.path.exists(PROGRAM):
-            self.fail(f"no program at {PROGRAM}: build it with ./first-run, or name one in PEHVONK_PROGRAM")
+            self.fail(f"no program at {PROGRAM}: build it with ./first-run --proved, or name one in PEHVONK_PROGRAM")
         scripts = sorted((TOOLS.parent / "examples").glob("*.script"))
         self.assertTrue(scripts, "there are no examples")
         for script in scripts:

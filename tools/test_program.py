@@ -1,6 +1,7 @@
 """The built program as a process: its words, exit statuses, lines on standard error, and the files that it adds to.
 
-The program is PEHVONK_PROGRAM, or the one that the repository's gate or ./first-run leaves. Without it these tests fail.
+The program is PEHVONK_PROGRAM, or the one that the repository's gate or ./first-run --proved leaves. Without it these
+tests fail.
 """
 import os
 import resource
@@ -48,8 +49,8 @@ class Program(unittest.TestCase):
         self.assertEqual((done.returncode, done.stderr), (status, said))
 
     def test_other_words_give_the_usage(self):
-        wrong = [[], ["replay"], ["replay", "a", "b"], ["play", "a"], ["replay", ""], ["replay", "-"], ["replay", "--help"],
-                 ["--help"], ["replay", b"\xff"], ["Replay", "a"], ["a", "replay"]]
+        wrong = [[], ["replay"], ["replay", "a", "b"], ["play", "a"], ["replay", ""], ["replay", "-"],
+                 ["replay", "--help"], ["--help"], ["replay", b"\xff"], ["Replay", "a"], ["a", "replay"]]
         for words in wrong:
             with self.subTest(words):
                 done = self.run_with(words, PERIOD)

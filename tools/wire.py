@@ -28,7 +28,7 @@ RESULTS = {
 SIZES = {  # the bytes of each type of numbers; a time is in units of 100 ns
     "u8": 1, "u16": 2, "u32": 4, "u64": 8, "length": 4, "kind": 1, "conn": 1, "time": 8, "flow": 1,
     "role": 1, "state": 4, "share": 4, "stream_flags": 4, "buffer_flags": 4}
-LIMITS = {  # of numbers, where they are narrower than their bytes, and of the lengths of the other types
+LIMITS = {  # of numbers, if they are narrower than their bytes, and of the lengths of the other types
     "length": (1, 4_194_304), "kind": (1, 7), "conn": (1, 32), "text": (0, 256), "format": (0, 0xFFFF),
     "guid": (16, 16)}
 NAMES = {  # of values; of the types in JOINED a value may be several of these, added up
@@ -45,7 +45,7 @@ JOINED = {"state", "stream_flags", "buffer_flags"}
 # rest and message (the rest of the body), TYPE[] (a list with its count in front), and the records.
 RECORDS = {"handle": "client:u64 handle:u64",
            "notice": "kind:u8 subject:u64 context:guid value:u64 text:text"}
-HEADS = {3: "conn:conn tag:u32 "}  # fields of a kind that stand before the code
+HEADS = {3: "conn:conn tag:u32 "}  # fields of a kind that come before the code
 
 EVENTS = [  # kind, code, event, fields, payload of S_OK
     (1, None, "Open", "conn:conn pid:u32 name:text", ""),
@@ -163,7 +163,7 @@ def put(type_name, value):
 
 
 def spell(event_name, /, **values):
-    """The whole frame of one event. ValueError where a field is missing, unknown or doesn't fit."""
+    """The whole frame of one event. ValueError if a field is missing, unknown or doesn't fit."""
     shape = SHAPES[event_name]
     values.setdefault("code", shape.code)
     body = put("kind", shape.kind)
@@ -221,7 +221,7 @@ def read_event(body):
 
 
 def read_reply(body):
-    """The payload of a call stays bytes, as the reply doesn't tell the code."""
+    """The payload of a call stays bytes, as the reply doesn't say the code."""
     reply = Reply(**_read(fields_of("kind:kind conn:u8 tag:u32 result:u32 payload:rest"), body))
     decode_payload(_BY_CODE[reply.kind, None].name, reply.result, reply.payload)
     return reply
