@@ -7,4 +7,4 @@ mod mix;
 mod tests;
 
 pub use gains::{EndGains, Gains, stream_gain};
-pub use mix::{add_plain, out_plain};
+pub use mix::{add_plain, out_plain, sample_of, scaled_sample};

@@ -8,7 +8,7 @@ use ca_base::limits::MAX_LEVEL;
 
 /// A sample times a gain, toward zero.
 #[inline]
-fn scaled_sample(sample: i16, gain: u32) -> i32
+pub fn scaled_sample(sample: i16, gain: u32) -> i32
     requires { gain ≤ unit_gain }
     ensures exact { result ≡ scaled sample gain }
     ensures within { unsigned_abs result ≤ sample_limit }
@@ -29,7 +29,7 @@ fn sum_with(sum: i64, sample: i16, gain: u32) -> i64
 
 /// A sum times a gain, toward zero, in the range of a sample.
 #[inline]
-fn sample_of(sum: i64, gain: u32) -> i16
+pub fn sample_of(sum: i64, gain: u32) -> i16
     requires gain { gain ≤ unit_gain }
     requires sum { unsigned_abs sum ≤ sum_limit }
     ensures { result ≡ clamp16 (scaled sum gain) }

@@ -1,0 +1,10 @@
+pub mod Passes
+pub mod Pieces
+pub mod SumSteps
+pub mod StoreReads
+pub mod SampleBytes
+pub mod Rows
+pub mod SoundSteps
+pub mod DueSums
+pub mod SoundMix
+pub mod Mixable

@@ -1,0 +1,91 @@
+-- The steps of a Sound by client: each client has one entry, which was read.
+use Rattle.std.proofs.Common.{◌≡◌, ℕ, suc, ◌≤◌, ℤ, List, [], ◌∷◌, map, Bool, true, false, refl, sym, subst, ◌∙◌, arith, eq-eqb}
+use Rattle.std.specs.Prelude.{◌==◌, if◌then◌else◌}
+use Rattle.std.proofs.lemmas.Bool.Decides.{nat_tests}
+use Rattle.ca_stage.specs.Stage.{BufferData}
+use Rattle.ca_stage.specs.Order.{RisesFrom}
+use Rattle.buffer_ring.specs.declared.step.EndState.{EndState}
+use Rattle.buffer_ring.specs.declared.step.Step.{Step}
+use Rattle.period_engine.specs.declared.entry.StreamEntry.{StreamEntry}
+use Rattle.period_engine.specs.Agreement.{data_after}
+use Rattle.period_engine.specs.Sounds.{TakesSteps, AllTakeSteps}
+use Rattle.period_engine.specs.Added.{Threads, AddsEntry, reads_from}
+
+pub reads_leave : (channels start : ℕ) (words : List ℕ) (d : BufferData)
+    → data_after channels (reads_from start words) d ≡ d
+reads_leave channels start [] d = refl
+reads_leave channels start (word ∷ words) d = reads_leave channels (suc start) words d
+
+above : (m n : ℕ) → suc m ≤ n → (n == m) ≡ false
+above m n le = grind (arith, nat_tests)
+
+-- reads leave the data as they are
+by_client : (is : Bool) (words : List ℕ) (ss : List Step) (n : ℕ) (d : BufferData) → data_after n ss d ≡ d
+    → data_after n (if is then reads_from 0 words else ss) d ≡ d
+by_client true words ss n d same = reads_leave n 0 words d
+by_client false words ss n d same = same
+
+module _ {E : Type 0} (moves : E → List Step → E → Type 0) (state : E → EndState) (channels : ℕ) where
+  -- the reads of the entry of a client
+  abbrev pub steps_of : (xs ys : List (StreamEntry E)) (old new : List ℤ)
+      → Threads (AddsEntry moves state channels) xs ys old new → ℕ → List Step
+  steps_of [] [] old new h n = []
+  steps_of (x ∷ xs) (y ∷ ys) old new h n =
+      if n == x.client.0 then reads_from 0 h.1.words else steps_of xs ys h.0 new h.2 n
+  steps_of [] (y ∷ ys) old new h n = []
+  steps_of (x ∷ xs) [] old new h n = []
+
+  -- steps by client are the reads of each entry
+  abbrev pub Follows : (ℕ → List Step) → (xs ys : List (StreamEntry E)) (old new : List ℤ)
+      → Threads (AddsEntry moves state channels) xs ys old new → Type 0
+  Follows steps [] [] old new h = Unit {0}
+  Follows steps (x ∷ xs) (y ∷ ys) old new h =
+      (steps x.client.0 ≡ reads_from 0 h.1.words) × Follows steps xs ys h.0 new h.2
+  Follows steps [] (y ∷ ys) old new h = Unit {0}
+  Follows steps (x ∷ xs) [] old new h = Unit {0}
+
+  follows_alike : (f g : ℕ → List Step) (low : ℕ) → ((n : ℕ) → low ≤ n → g n ≡ f n) → (xs ys : List (StreamEntry E))
+      (old new : List ℤ) (h : Threads (AddsEntry moves state channels) xs ys old new)
+      → RisesFrom low (map (λ e. e.client.0) xs) → Follows f xs ys old new h → Follows g xs ys old new h
+  follows_alike f g low alike [] [] old new h rises follows = tt
+  follows_alike f g low alike (x ∷ xs) (y ∷ ys) old new h rises follows = (
+    alike x.client.0 rises.0 ∙ follows.0,
+    follows_alike f g (suc x.client.0) (λ n le. alike n (omega (arith, rises.0))) xs ys h.0 new h.2 rises.1 follows.1,
+  )
+  follows_alike f g low alike [] (y ∷ ys) old new h rises follows = tt
+  follows_alike f g low alike (x ∷ xs) [] old new h rises follows = tt
+
+  pub steps_follow : (low : ℕ) (xs ys : List (StreamEntry E)) (old new : List ℤ)
+      (h : Threads (AddsEntry moves state channels) xs ys old new) → RisesFrom low (map (λ e. e.client.0) xs)
+      → Follows (steps_of xs ys old new h) xs ys old new h
+  steps_follow low [] [] old new h rises = tt
+  steps_follow low (x ∷ xs) (y ∷ ys) old new h rises =
+      let itself = eq-eqb x.client.0 x.client.0 refl in
+      let tail : (n : ℕ) → suc x.client.0 ≤ n → steps_of (x ∷ xs) (y ∷ ys) old new h n ≡ steps_of xs ys h.0 new h.2 n =
+      λ n le. let other = above x.client.0 n le in rw other refl in (
+        rw itself refl,
+        follows_alike (steps_of xs ys h.0 new h.2) (steps_of (x ∷ xs) (y ∷ ys) old new h) (suc x.client.0) tail xs ys h.0
+            new h.2 rises.1 (steps_follow (suc x.client.0) xs ys h.0 new h.2 rises.1),
+      )
+  steps_follow low [] (y ∷ ys) old new h rises = tt
+  steps_follow low (x ∷ xs) [] old new h rises = tt
+
+  -- each entry took its steps
+  pub all_take : (steps : ℕ → List Step) (xs ys : List (StreamEntry E)) (old new : List ℤ)
+      (h : Threads (AddsEntry moves state channels) xs ys old new) → Follows steps xs ys old new h
+      → AllTakeSteps moves steps xs ys
+  all_take steps [] [] old new h follows = tt
+  all_take steps (x ∷ xs) (y ∷ ys) old new h follows =
+      (subst (λ ss. TakesSteps moves ss x y) (sym follows.0) h.1.takes, all_take steps xs ys h.0 new h.2 follows.1)
+  all_take steps [] (y ∷ ys) old new h follows = absurd h
+  all_take steps (x ∷ xs) [] old new h follows = absurd h
+
+  pub steps_leave : (xs ys : List (StreamEntry E)) (old new : List ℤ)
+      (h : Threads (AddsEntry moves state channels) xs ys old new) (d : BufferData) (client n : ℕ)
+      → data_after n (steps_of xs ys old new h client) d ≡ d
+  steps_leave [] [] old new h d client n = refl
+  steps_leave (x ∷ xs) (y ∷ ys) old new h d client n =
+      by_client (client == x.client.0) h.1.words (steps_of xs ys h.0 new h.2 client) n d
+      (steps_leave xs ys h.0 new h.2 d client n)
+  steps_leave [] (y ∷ ys) old new h d client n = refl
+  steps_leave (x ∷ xs) [] old new h d client n = refl

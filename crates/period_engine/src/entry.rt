@@ -1,0 +1,34 @@
+//! The engine's end of a stream, with what the engine keeps of it.
+
+use ca_base::{ClientNo, EndpointNo, Gate, SessionNo, StreamKind};
+
+/// A stream as the engine has it (IAudioClient). Frames are of `channels` samples of 16 bits.
+#[derive(Drop)]
+pub struct StreamEntry<E> {
+    pub client: ClientNo,
+    pub endpoint: EndpointNo,
+    pub kind: StreamKind,
+    pub exclusive: bool,
+    /// Whether the stream is event-driven.
+    pub event: bool,
+    pub channels: u16,
+    /// Frames a second.
+    pub rate: u32,
+    /// The frames of the buffer, and of a period.
+    pub buffer: u32,
+    pub period: u32,
+    pub store: E,
+    /// The words that the store holds.
+    pub room: u32,
+    /// In units of 100 ns.
+    pub latency: u64,
+    pub session: SessionNo,
+    pub gate: Gate,
+    pub running: bool,
+    /// How many frames the period that is under way plays.
+    pub picked: u32,
+    /// The frames rendered since the last Reset.
+    pub position: u64,
+    /// The gain of each channel, from 0 to 65536.
+    pub gains: [u32; 4],
+}
