@@ -1,5 +1,35 @@
 -- What entries add to a channel at a place of a period, and what the mix sums there.
-use Rattle.std.proofs.Common.{◌≡◌, ℕ, zero, suc, ◌+◌, ◌*◌, ◌<◌, ◌≤◌, ℤ, pos, ◌+ℤ◌, List, [], ◌∷◌, length, map, Bool, true, false, Some, refl, sym, ap, subst, ◌∙◌, arith, inl, inr, ◌⊎◌}
+use Rattle.std.proofs.Common.{
+  ◌≡◌,
+  ℕ,
+  zero,
+  suc,
+  ◌+◌,
+  ◌*◌,
+  ◌<◌,
+  ◌≤◌,
+  ℤ,
+  pos,
+  ◌+ℤ◌,
+  List,
+  [],
+  ◌∷◌,
+  length,
+  map,
+  Bool,
+  true,
+  false,
+  Some,
+  refl,
+  sym,
+  ap,
+  subst,
+  ◌∙◌,
+  arith,
+  inl,
+  inr,
+  ◌⊎◌,
+}
 use Rattle.std.specs.Prelude.{◌==◌, nat_lt, slice_get, slice_index_or, slice_index, if◌then◌else◌}
 use Rattle.std.specs.List.{All}
 use Rattle.std.proofs.lemmas.Bool.{cases_lt}
@@ -25,7 +55,8 @@ use Rattle.period_engine.proofs.SoundSteps.{Follows}
 -- what an entry adds to a channel at a place, by its frames
 abbrev pub part : {E : Type 0} → (ℕ → BufferData) → ℕ → ℕ → StreamEntry E → ℤ
 part datas place channel e =
-    if nat_lt place e.picked then scaled (sample_of (slice_index_or (datas e.client.0).pending place []) channel) (slice_index e.gains channel)
+    if nat_lt place e.picked
+    then scaled (sample_of (slice_index_or (datas e.client.0).pending place []) channel) (slice_index e.gains channel)
     else pos 0
 
 -- ---- what the mix sums
@@ -87,7 +118,8 @@ module _ {E : Type 0} (datas : ℕ → BufferData) (m : Mixing) (number place ch
   by_tests e entries false lt here-is lt-is gain plays rest = elsewhere e entries here-is (plays (rw here-is refl)) rest
 
   -- the mix sums what the entries add
-  pub due_sum : (entries : List (StreamEntry E)) → All (λ e. m.gain e.client.0 channel ≡ slice_index e.gains channel) entries
+  pub due_sum : (entries : List (StreamEntry E))
+      → All (λ e. m.gain e.client.0 channel ≡ slice_index e.gains channel) entries
       → All (λ e. is_played number e ≡ false → e.picked ≡ 0) entries
       → sum_of (map (contribution m channel) (due_frames place (streams_on number (streams_of datas entries))))
       ≡ sum_of (map (part datas place channel) entries)
@@ -113,7 +145,8 @@ agrees_at channels start (word ∷ words) d agrees (suc k) lt =
     ap (slice_get d.pending) next ∙ agrees_at channels (suc start) words d agrees.1 k (omega arith)
 
 -- the sample of a word's frame
-sample_of-frame_of : (channels word channel : ℕ) → channel < channels → sample_of (frame_of channels word) channel ≡ sample_at word channel
+sample_of-frame_of : (channels word channel : ℕ) → channel < channels
+    → sample_of (frame_of channels word) channel ≡ sample_at word channel
 sample_of-frame_of channels word channel lt =
     get_or-map-range_with_len (sample_at word) 0 channels channel channel (pos 0) lt (omega arith)
 
@@ -129,7 +162,8 @@ module _ {E : Type 0} (moves : E → List Step → E → Type 0) (state : E → 
       let start : 0 + place ≡ place = omega arith in
       let frame : slice_index_or (datas a.client.0).pending place [] ≡ frame_of channels word =
       get_or_from_slice_get (datas a.client.0).pending place (frame_of channels word) []
-      (ap (slice_get (datas a.client.0).pending) (sym start) ∙ agrees_at a.channels 0 h.words (datas a.client.0) agrees place there
+      (ap (slice_get (datas a.client.0).pending) (sym start)
+      ∙ agrees_at a.channels 0 h.words (datas a.client.0) agrees place there
       ∙ ap (λ n. Some (frame_of n word)) fits) in
       let sample : sample_at word channel ≡ sample_of (slice_index_or (datas a.client.0).pending place []) channel =
       sym (ap (λ f. sample_of f channel) frame ∙ sample_of-frame_of channels word channel within) in
@@ -138,10 +172,12 @@ module _ {E : Type 0} (moves : E → List Step → E → Type 0) (state : E → 
       ∙ ap (λ z. sum_at old (channels * place + channel) +ℤ scaled z (slice_index a.gains channel)) sample)
 
   -- one without
-  adds_nothing : (a b : StreamEntry E) (old new : List ℤ) (h : AddsEntry moves state channels a b old new) → a.picked ≤ place
+  adds_nothing : (a b : StreamEntry E) (old new : List ℤ) (h : AddsEntry moves state channels a b old new)
+      → a.picked ≤ place
       → sum_at new (channels * place + channel) ≡ sum_at old (channels * place + channel) +ℤ part datas place channel a
   adds_nothing a b old new h le =
-      let behind : channels * length h.words ≤ channels * place = mul-le-mul_left channels (omega (arith, h.count_is)) in
+      let behind : channels * length h.words ≤ channels * place =
+      mul-le-mul_left channels (omega (arith, h.count_is)) in
       let test = not_lt place a.picked le in
       rw test (h.adds.after (channels * place + channel) (omega (arith, behind))
       ∙ nothing_behind (sum_at old (channels * place + channel)))

@@ -15,7 +15,8 @@ use Rattle.period_engine.specs.Added.{Threads, AddsEntry, IsAddable}
 pub front_of : (n len : ℕ) (xs ys : List ℕ) → n ≤ len → n ≤ length xs → take n (take len (xs ++ ys)) ≡ take n xs
 front_of n len xs ys within there = take-take n len (xs ++ ys) within ∙ take-append-le n xs ys there
 
-pub addable : {E : Type 0} (state : E → EndState) (number p channels : ℕ) (e : StreamEntry E) → IsPicked state number p e
+pub addable : {E : Type 0} (state : E → EndState) (number p channels : ℕ) (e : StreamEntry E)
+    → IsPicked state number p e
     → IsMixable channels e → IsAddable state channels (p * channels) e
 addable state number p channels e picked mixable = record {
   seen = picked.seen;
@@ -44,7 +45,8 @@ module _ {E : Type 0} (moves : E → List Step → E → Type 0) (state : E → 
         counts = omega (arith, picked.counts, takes.picked, takes.position);
       }
 
-  pub all_picked : (xs ys : List (StreamEntry E)) (old new : List ℤ) → Threads (AddsEntry moves state channels) xs ys old new
+  pub all_picked : (xs ys : List (StreamEntry E)) (old new : List ℤ)
+      → Threads (AddsEntry moves state channels) xs ys old new
       → All (IsPicked state number p) xs → All (IsPicked state number p) ys
   all_picked [] [] old new h picked = All-nil (IsPicked state number p)
   all_picked (x ∷ xs) (y ∷ ys) old new h picked =

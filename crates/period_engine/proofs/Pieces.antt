@@ -1,5 +1,28 @@
 -- What a device did so far that takes its bytes piece by piece.
-use Rattle.std.proofs.Common.{◌≡◌, ℕ, ◌<◌, ◌≤◌, true, false, List, [], ◌∷◌, ◌++◌, length, take, drop, Option, Some, None, refl, sym, ap, ◌∙◌, subst, length-drop}
+use Rattle.std.proofs.Common.{
+  ◌≡◌,
+  ℕ,
+  ◌<◌,
+  ◌≤◌,
+  true,
+  false,
+  List,
+  [],
+  ◌∷◌,
+  ◌++◌,
+  length,
+  take,
+  drop,
+  Option,
+  Some,
+  None,
+  refl,
+  sym,
+  ap,
+  ◌∙◌,
+  subst,
+  length-drop,
+}
 use Rattle.std.specs.Option.{option_map}
 use Rattle.ca_base.specs.Faults.{Rose}
 use Rattle.device_io.specs.DeviceLog.{DeviceLog, add_written, add_all}
@@ -43,7 +66,8 @@ tells_push : (ws : List (ℕ × List ℕ)) (e : ℕ) (piece : List ℕ) (told : 
 tells_push ws e piece None = refl
 tells_push ws e piece (Some held) = ap (λ (hs : List DeviceLog). Some hs) (sym (add_all-push ws e piece held))
 
-module _ {e : ℕ} {bytes rest : List ℕ} {told told' : Option (List DeviceLog)} (so_far : Taking e bytes rest told told') where
+module _ {e : ℕ} {bytes rest : List ℕ} {told told' : Option (List DeviceLog)}
+    (so_far : Taking e bytes rest told told') where
   -- one piece more
   pub taking_more : (n : ℕ) (after : List ℕ) (next : Option (List DeviceLog)) → 0 < n → n ≤ length rest
       → after ≡ drop n rest
@@ -78,7 +102,8 @@ some_left bytes (n ∷ counts) rest h some = (
       (some_left (drop n bytes) counts rest h.2 some),
 )
 
-module _ {e : ℕ} {bytes rest : List ℕ} {told told' : Option (List DeviceLog)} (so_far : Taking e bytes rest told told') where
+module _ {e : ℕ} {bytes rest : List ℕ} {told told' : Option (List DeviceLog)}
+    (so_far : Taking e bytes rest told told') where
   -- the device took all
   pub took_all : (faults faults' : ℕ) → length rest ≡ 0 → faults' ≡ faults
       → Offers e bytes true faults told faults' told'
@@ -90,8 +115,8 @@ module _ {e : ℕ} {bytes rest : List ℕ} {told told' : Option (List DeviceLog)
   }
 
   -- the device failed
-  pub gave_up : (faults mid faults' : ℕ) (next : Option (List DeviceLog)) → 0 < length rest → mid ≡ faults → Rose mid faults'
-      → next ≡ told' → Offers e bytes false faults told faults' next
+  pub gave_up : (faults mid faults' : ℕ) (next : Option (List DeviceLog)) → 0 < length rest → mid ≡ faults
+      → Rose mid faults' → next ≡ told' → Offers e bytes false faults told faults' next
   gave_up faults mid faults' next some same rose kept = record {
     counts = so_far.counts;
     taken = some_left bytes so_far.counts rest so_far.leaves some;

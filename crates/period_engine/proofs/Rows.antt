@@ -1,5 +1,24 @@
 -- Lists in rows of one width: place by place, row by row.
-use Rattle.std.proofs.Common.{◌≡◌, ℕ, zero, suc, ◌+◌, ◌*◌, ◌<◌, List, [], ◌∷◌, ◌++◌, length, get_or, refl, sym, ap, ◌∙◌, arith}
+use Rattle.std.proofs.Common.{
+  ◌≡◌,
+  ℕ,
+  zero,
+  suc,
+  ◌+◌,
+  ◌*◌,
+  ◌<◌,
+  List,
+  [],
+  ◌∷◌,
+  ◌++◌,
+  length,
+  get_or,
+  refl,
+  sym,
+  ap,
+  ◌∙◌,
+  arith,
+}
 use Rattle.std.specs.List.{flat_map, range_with_len}
 use Rattle.std.proofs.lemmas.Grind.{flat_map-append}
 use Rattle.std.proofs.lemmas.List.Concat.{flat_map_single}
@@ -37,9 +56,12 @@ module _ {A : Type 0} where
       ap (λ k. flat_map G (range_with_len (width * i) k)) more
       ∙ ap (flat_map G) (range_append (width * i) width (width * n))
       ∙ flat_map-append G (range_with_len (width * i) width) (range_with_len (width * i + width) (width * n))
-      ∙ ap (λ k. flat_map G (range_with_len k width) ++ flat_map G (range_with_len (width * i + width) (width * n))) start
+      ∙ ap (λ k. flat_map G (range_with_len k width) ++ flat_map G (range_with_len (width * i + width) (width * n)))
+      start
       ∙ ap (λ xs. xs ++ flat_map G (range_with_len (width * i + width) (width * n))) (shifted G (width * i) 0 width)
-      ∙ ap (λ k. flat_map (λ c. G (width * i + c)) (range_with_len 0 width) ++ flat_map G (range_with_len k (width * n))) next
+      ∙ ap (λ k. flat_map (λ c. G (width * i + c)) (range_with_len 0 width)
+      ++ flat_map G (range_with_len k (width * n)))
+      next
       ∙ ap (λ xs. flat_map (λ c. G (width * i + c)) (range_with_len 0 width) ++ xs) (from_row G width (i + 1) n)
 
   -- all places are those of the rows, one row after another
@@ -58,7 +80,8 @@ module _ {A : Type 0} where
       let first : F a ≡ G a = rw start at (same 0 (omega arith)) in
       let rest : (i : ℕ) → i < n → F (a + 1 + i) ≡ G (a + 1 + i) =
       λ i lt. let k : a + 1 + i ≡ a + suc i = omega arith in rw k (same (suc i) (omega arith)) in
-      ap (λ xs. xs ++ flat_map F (range_with_len (a + 1) n)) first ∙ ap (λ xs. G a ++ xs) (alike_from F G (a + 1) n rest)
+      ap (λ xs. xs ++ flat_map F (range_with_len (a + 1) n)) first
+      ∙ ap (λ xs. G a ++ xs) (alike_from F G (a + 1) n rest)
 
   pub alike : (F G : ℕ → List A) (n : ℕ) → ((i : ℕ) → i < n → F i ≡ G i)
       → flat_map F (range_with_len 0 n) ≡ flat_map G (range_with_len 0 n)
@@ -73,7 +96,8 @@ module _ {A : Type 0} where
       let each : (k : ℕ) → A = λ k. get_or xs k d in
       let row : (i : ℕ) → i < n → flat_map (λ c. each (width * i + c) ∷ []) (range_with_len 0 width) ≡ F i = λ i lt.
       flat_map_single (λ c. each (width * i + c)) (range_with_len 0 width)
-      ∙ sym (fill_by_all (λ c. each (width * i + c)) (F i) width d (widths i lt) (λ c below. sym (places i c lt below))) in
+      ∙ sym (fill_by_all (λ c. each (width * i + c)) (F i) width d (widths i lt)
+      (λ c below. sym (places i c lt below))) in
       fill_by_all each xs (width * n) d size (λ k lt. refl)
       ∙ sym (flat_map_single each (range_with_len 0 (width * n)))
       ∙ in_rows (λ k. each k ∷ []) width n

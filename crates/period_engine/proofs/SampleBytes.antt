@@ -1,5 +1,27 @@
 -- Sums that are written as samples, one more.
-use Rattle.std.proofs.Common.{◌≡◌, ◌≢◌, ℕ, suc, ◌+◌, ◌*◌, ◌%◌, ◌<◌, ◌≤◌, List, length, get_or, set, sym, ap, ◌∙◌, arith, inl, inr, ◌⊎◌, add-one}
+use Rattle.std.proofs.Common.{
+  ◌≡◌,
+  ◌≢◌,
+  ℕ,
+  suc,
+  ◌+◌,
+  ◌*◌,
+  ◌%◌,
+  ◌<◌,
+  ◌≤◌,
+  List,
+  length,
+  get_or,
+  set,
+  sym,
+  ap,
+  ◌∙◌,
+  arith,
+  inl,
+  inr,
+  ◌⊎◌,
+  add-one,
+}
 use Rattle.std.proofs.Math.Nat.{suc-mod, mod_self, mod-eq_of_lt}
 use Rattle.std.proofs.lemmas.Nat.{mod_below}
 use Rattle.std.proofs.lemmas.List.{length-set, get_or-set_same, get_or-set_other}
@@ -10,7 +32,8 @@ pub channel_wraps : (place channels channel : ℕ) → channel ≡ place % chann
     → 0 ≡ (place + 1) % channels
 channel_wraps place channels channel is last =
     let next : suc (place % channels) ≡ channels = omega (arith, is, last) in
-    sym (ap (λ n. n % channels) (add-one place) ∙ suc-mod place channels ∙ ap (λ n. n % channels) next ∙ mod_self channels)
+    sym (ap (λ n. n % channels) (add-one place) ∙ suc-mod place channels ∙ ap (λ n. n % channels) next
+    ∙ mod_self channels)
 
 pub channel_goes : (place channels channel : ℕ) → channel ≡ place % channels → channel + 1 ≢ channels → 0 < channels
     → channel + 1 ≡ (place + 1) % channels

@@ -1,5 +1,25 @@
 -- The bytes of a Sound are the mix of its streams.
-use Rattle.std.proofs.Common.{◌≡◌, ℕ, ◌+◌, ◌*◌, ◌%◌, ◌<◌, ℤ, pos, ◌+ℤ◌, List, length, map, replicate, false, refl, sym, ap, ◌∙◌, arith}
+use Rattle.std.proofs.Common.{
+  ◌≡◌,
+  ℕ,
+  ◌+◌,
+  ◌*◌,
+  ◌%◌,
+  ◌<◌,
+  ℤ,
+  pos,
+  ◌+ℤ◌,
+  List,
+  length,
+  map,
+  replicate,
+  false,
+  refl,
+  sym,
+  ap,
+  ◌∙◌,
+  arith,
+}
 use Rattle.std.specs.Prelude.{slice_index}
 use Rattle.std.specs.List.{All, flat_map, range_with_len}
 use Rattle.std.proofs.lemmas.Int.{ints}
@@ -30,20 +50,23 @@ sounded m streams number channels frames =
     flat_map (λ i. flat_map (λ c. sample_bytes (mixed_sample m (due_frames i (streams_on number streams)) c))
     (range_with_len 0 channels)) (range_with_len 0 frames)
 
-by_channel : (m : Mixing) (streams : List Stream) → sound_bytes m streams ≡ sounded m streams m.endpoint m.channels m.frames
+by_channel : (m : Mixing) (streams : List Stream)
+    → sound_bytes m streams ≡ sounded m streams m.endpoint m.channels m.frames
 unfolding sounded
 by_channel m streams =
     flat_map-map frame_bytes (λ i. mix_of m (due_frames i (streams_on m.endpoint streams))) (range_with_len 0 m.frames)
     ∙ alike (λ i. frame_bytes (mix_of m (due_frames i (streams_on m.endpoint streams))))
-    (λ i. flat_map (λ c. sample_bytes (mixed_sample m (due_frames i (streams_on m.endpoint streams)) c)) (range_with_len 0 m.channels))
+    (λ i. flat_map (λ c. sample_bytes (mixed_sample m (due_frames i (streams_on m.endpoint streams)) c))
+    (range_with_len 0 m.channels))
     m.frames
-    (λ i lt. flat_map-map sample_bytes (mixed_sample m (due_frames i (streams_on m.endpoint streams))) (range_with_len 0 m.channels))
+    (λ i lt. flat_map-map sample_bytes (mixed_sample m (due_frames i (streams_on m.endpoint streams)))
+    (range_with_len 0 m.channels))
 
 from_zero : (z : ℤ) → pos 0 +ℤ z ≡ z
 from_zero z = omega (arith, ints)
 
-module _ {E : Type 0} (moves : E → List Step → E → Type 0) (state : E → EndState) (ends : List ℕ) (number frames size : ℕ)
-    (xs ys : List (StreamEntry E)) (sums : List ℤ) (steps : ℕ → List Step)
+module _ {E : Type 0} (moves : E → List Step → E → Type 0) (state : E → EndState) (ends : List ℕ)
+    (number frames size : ℕ) (xs ys : List (StreamEntry E)) (sums : List ℤ) (steps : ℕ → List Step)
     (h : Threads (AddsEntry moves state (length ends)) xs ys (replicate size (pos 0)) sums)
     (follows : Follows moves state (length ends) steps xs ys (replicate size (pos 0)) sums h)
     (datas : ℕ → BufferData) (m : Mixing) (agree : AllAgree steps datas xs) (mixes : MixesThese m number frames ends xs)
@@ -64,7 +87,8 @@ module _ {E : Type 0} (moves : E → List Step → E → Type 0) (state : E → 
       let channel : k % length ends ≡ c =
       ap (λ n. (n + c) % length ends) (mul_comm (length ends) i) ∙ mod-mul-add i (length ends) c lt in
       ap (λ z. clamp16 (scaled z (slice_index ends (k % length ends)))) (sum_is i c lt)
-      ∙ ap (λ g. clamp16 (scaled (sum_of (map (contribution m c) (due_frames i (streams_on number (streams_of datas xs))))) g))
+      ∙ ap (λ g. clamp16
+      (scaled (sum_of (map (contribution m c) (due_frames i (streams_on number (streams_of datas xs))))) g))
       (ap (slice_index ends) channel ∙ sym (mixes.end_gains c lt))
 
   pub mixed_bytes : (bytes : List ℕ) → length sums ≡ size → size ≡ frames * length ends → HoldSamples ends sums bytes
@@ -78,7 +102,8 @@ module _ {E : Type 0} (moves : E → List Step → E → Type 0) (state : E → 
       ∙ ap (λ n. flat_map Sample (range_with_len 0 n)) count
       ∙ in_rows Sample (length ends) frames
       ∙ alike (λ i. flat_map (λ c. Sample (length ends * i + c)) (range_with_len 0 (length ends)))
-      (λ i. flat_map (λ c. sample_bytes (mixed_sample m (due_frames i (streams_on number streams)) c)) (range_with_len 0 (length ends)))
+      (λ i. flat_map (λ c. sample_bytes (mixed_sample m (due_frames i (streams_on number streams)) c))
+      (range_with_len 0 (length ends)))
       frames (λ i lt. alike (λ c. Sample (length ends * i + c))
       (λ c. sample_bytes (mixed_sample m (due_frames i (streams_on number streams)) c)) (length ends)
       (λ c below. ap sample_bytes (sample_is i c below)))

@@ -1,5 +1,24 @@
 -- The steps of a Sound by client: each client has one entry, which was read.
-use Rattle.std.proofs.Common.{◌≡◌, ℕ, suc, ◌≤◌, ℤ, List, [], ◌∷◌, map, Bool, true, false, refl, sym, subst, ◌∙◌, arith, eq-eqb}
+use Rattle.std.proofs.Common.{
+  ◌≡◌,
+  ℕ,
+  suc,
+  ◌≤◌,
+  ℤ,
+  List,
+  [],
+  ◌∷◌,
+  map,
+  Bool,
+  true,
+  false,
+  refl,
+  sym,
+  subst,
+  ◌∙◌,
+  arith,
+  eq-eqb,
+}
 use Rattle.std.specs.Prelude.{◌==◌, if◌then◌else◌}
 use Rattle.std.proofs.lemmas.Bool.Decides.{nat_tests}
 use Rattle.ca_stage.specs.Stage.{BufferData}
@@ -64,8 +83,8 @@ module _ {E : Type 0} (moves : E → List Step → E → Type 0) (state : E → 
       let tail : (n : ℕ) → suc x.client.0 ≤ n → steps_of (x ∷ xs) (y ∷ ys) old new h n ≡ steps_of xs ys h.0 new h.2 n =
       λ n le. let other = above x.client.0 n le in rw other refl in (
         rw itself refl,
-        follows_alike (steps_of xs ys h.0 new h.2) (steps_of (x ∷ xs) (y ∷ ys) old new h) (suc x.client.0) tail xs ys h.0
-            new h.2 rises.1 (steps_follow (suc x.client.0) xs ys h.0 new h.2 rises.1),
+        follows_alike (steps_of xs ys h.0 new h.2) (steps_of (x ∷ xs) (y ∷ ys) old new h) (suc x.client.0) tail xs ys
+            h.0 new h.2 rises.1 (steps_follow (suc x.client.0) xs ys h.0 new h.2 rises.1),
       )
   steps_follow low [] (y ∷ ys) old new h rises = tt
   steps_follow low (x ∷ xs) [] old new h rises = tt

@@ -1,5 +1,35 @@
 -- Words that are added to sums, one sample and one word more.
-use Rattle.std.proofs.Common.{◌≡◌, ◌≢◌, ℕ, ◌+◌, ◌*◌, ◌<◌, ◌≤◌, ℤ, pos, ◌+ℤ◌, unsigned_abs, List, [], ◌∷◌, ◌++◌, length, get_or, set, replicate, refl, sym, ap, ◌∙◌, arith, inl, inr, ◌⊎◌, to_z, of_z}
+use Rattle.std.proofs.Common.{
+  ◌≡◌,
+  ◌≢◌,
+  ℕ,
+  ◌+◌,
+  ◌*◌,
+  ◌<◌,
+  ◌≤◌,
+  ℤ,
+  pos,
+  ◌+ℤ◌,
+  unsigned_abs,
+  List,
+  [],
+  ◌∷◌,
+  ◌++◌,
+  length,
+  get_or,
+  set,
+  replicate,
+  refl,
+  sym,
+  ap,
+  ◌∙◌,
+  arith,
+  inl,
+  inr,
+  ◌⊎◌,
+  to_z,
+  of_z,
+}
 use Rattle.std.specs.Int.{w32}
 use Rattle.std.proofs.lemmas.Int.{ints, to_z-of_z, fits_signed_from_abs}
 use Rattle.std.proofs.lemmas.List.{
@@ -95,7 +125,8 @@ row_below width place count lt =
     let more : width * (place + 1) ≤ width * count = mul-le-mul_left width (omega arith) in
     omega (arith, more)
 
-pub row_within : (width place count channel : ℕ) → place < count → channel < width → width * place + channel < width * count
+pub row_within : (width place count channel : ℕ) → place < count → channel < width
+    → width * place + channel < width * count
 row_within width place count channel lt below = omega (arith, row_below width place count lt)
 
 pub no_words : (gains : List ℕ) (channels : ℕ) (sums : List ℤ) → AddsWords gains channels [] sums sums
@@ -106,9 +137,11 @@ no_words gains channels sums = record {
 }
 
 module _ {gains : List ℕ} {channels word : ℕ} {words : List ℕ} {old mid new : List ℤ}
-    (so_far : AddsWords gains channels words old mid) (one : AddsWord gains channels word (channels * length words) mid new)
+    (so_far : AddsWords gains channels words old mid)
+    (one : AddsWord gains channels word (channels * length words) mid new)
   where
-    here_within : (place channel : ℕ) → (place < length words) ⊎ (length words ≤ place) → place < length (words ++ word ∷ [])
+    here_within : (place channel : ℕ) → (place < length words) ⊎ (length words ≤ place)
+        → place < length (words ++ word ∷ [])
         → channel < channels → sum_at new (channels * place + channel)
         ≡ sum_at old (channels * place + channel) +ℤ share gains (get_or (words ++ word ∷ []) place 0) channel
     here_within place channel (inl lt) below within =
@@ -118,7 +151,8 @@ module _ {gains : List ℕ} {channels word : ℕ} {words : List ℕ} {old mid ne
     here_within place channel (inr le) below within =
         let last : place ≡ length words = omega (arith, length_push words word) in
         rw (last, get_or_push words word 0 (length words) refl)
-        (one.here channel within ∙ ap (λ z. z +ℤ share gains word channel) (so_far.after (channels * length words + channel) (omega arith)))
+        (one.here channel within
+        ∙ ap (λ z. z +ℤ share gains word channel) (so_far.after (channels * length words + channel) (omega arith)))
 
     near_within : (k : ℕ) → (k < channels * length words) ⊎ (channels * length words ≤ k)
         → unsigned_abs (sum_at new k) ≤ unsigned_abs (sum_at old k) + sample_limit

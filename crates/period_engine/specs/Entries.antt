@@ -33,6 +33,7 @@ stream_with d e = record {
 abbrev pub stream_of : {E : Type 0} → (ℕ → BufferData) → StreamEntry E → Stream
 stream_of datas e = stream_with (datas e.client.0) e
 
+-- and of a list of entries
 abbrev pub streams_of : {E : Type 0} → (ℕ → BufferData) → List (StreamEntry E) → List Stream
 streams_of datas entries = map (stream_of datas) entries
 

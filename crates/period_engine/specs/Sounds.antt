@@ -49,6 +49,7 @@ pub record TakesSteps {E : Type 0} (moves : E → List Step → E → Type 0) (s
   pub position : b.position ≡ a.position
   pub made : moves a.store steps b.store
 
+-- entry by entry, each by its client's steps
 abbrev pub AllTakeSteps : {E : Type 0} → (E → List Step → E → Type 0) → (ℕ → List Step) → List (StreamEntry E)
     → List (StreamEntry E) → Type 0
 AllTakeSteps moves steps [] [] = Unit {0}
@@ -59,8 +60,8 @@ AllTakeSteps moves steps (a ∷ xs) [] = ⊥
 -- A Sound: the stores were read; for all data that agree with what was read the data stay as they are, and the bytes
 -- offered to the device are the mix of the streams, by any mixing of these gains.
 pub record Sounds {E : Type 0} (moves : E → List Step → E → Type 0) (number frames : ℕ) (ends : List ℕ) (whole : Bool)
-    (old new : List (StreamEntry E)) (faults : ℕ) (told : Option (List DeviceLog)) (faults' : ℕ) (told' : Option (List DeviceLog))
-    : Type 0 where
+    (old new : List (StreamEntry E)) (faults : ℕ) (told : Option (List DeviceLog)) (faults' : ℕ)
+    (told' : Option (List DeviceLog)) : Type 0 where
   pub steps : ℕ → List Step
   pub made : AllTakeSteps moves steps old new
   pub bytes : List ℕ

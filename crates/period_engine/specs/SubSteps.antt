@@ -39,8 +39,10 @@ pub record Turned {E : Type 0} (moves : E → List Step → E → Type 0) (f : S
 abbrev pub if_playing : ℕ → StreamMove → Stream → Stream
 if_playing number m s = if is_playing number s then moved m s else s
 
+-- at most this many frames are picked of each stream that a period of the endpoint plays
 abbrev pub picks_on : ℕ → ℕ → Stream → Stream
 picks_on number frames = if_playing number (picked frames)
 
+-- and what was picked of each is rendered
 abbrev pub retires_on : ℕ → Stream → Stream
 retires_on number = if_playing number retired

@@ -17,8 +17,9 @@ loop-entry-init g c =
 pub add_picked-requires-clause-addable : goal.add_picked-requires-clause-addable
 add_picked-requires-clause-addable g c =
     let size : length c.loop-entry.sums ≡ length c.args.sums.now = omega arith in
-    rw size (next_has c.loop-entry.invariant.adds (IsAddable g.E.EngineSide.state c.args.channels (length c.args.sums.now))
-    c.entry-item.result c.loop-entry-test.true c.requires.addable)
+    rw size (next_has c.loop-entry.invariant.adds
+    (IsAddable g.E.EngineSide.state c.args.channels (length c.args.sums.now)) c.entry-item.result
+    c.loop-entry-test.true c.requires.addable)
 
 pub add_picked-requires-clause-sums : goal.add_picked-requires-clause-sums
 add_picked-requires-clause-sums g c =

@@ -5,6 +5,7 @@ use Rattle.period_engine.proofs.adding.add_words.Given as goal
 -- the words so far were read and added
 abbrev pub invariant-loop-place : goal.invariant-loop-place
 invariant-loop-place g l = record {
-  adds : AddsStore g.E.EngineSide.moves g.E.EngineSide.state l.gains l.channels l.place l.fn.store l.store l.fn.sums l.sums;
+  adds : AddsStore g.E.EngineSide.moves g.E.EngineSide.state l.gains l.channels l.place l.fn.store l.store l.fn.sums
+      l.sums;
   at_is : l.at ≡ l.channels * l.place;
 }

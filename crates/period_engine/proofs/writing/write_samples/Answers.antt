@@ -1,4 +1,20 @@
-use Rattle.std.proofs.Common.{◌≡◌, ◌/◌, ◌%◌, pos, [], ◌∷◌, length, get_or, to_z, of_z, FitsSigned, ap, ◌∙◌, arith, rules}
+use Rattle.std.proofs.Common.{
+  ◌≡◌,
+  ◌/◌,
+  ◌%◌,
+  pos,
+  [],
+  ◌∷◌,
+  length,
+  get_or,
+  to_z,
+  of_z,
+  FitsSigned,
+  ap,
+  ◌∙◌,
+  arith,
+  rules,
+}
 use Rattle.std.specs.Int.{w16, w32, w64}
 use Rattle.std.proofs.lemmas.Int.{to_z-of_z}
 use Rattle.wave_format.specs.Frame.{sample_bytes}
@@ -18,7 +34,8 @@ loop-place-preserved c =
     let fits : FitsSigned w32 sum = search rules in
     let wide : FitsSigned w64 sum = record { sfits = omega (arith, fits.sfits) } in
     let small : FitsSigned w16 c.sample_of-sample.result = search rules in
-    let sum_is : to_z w64 (of_z w64 (to_z w32 (of_z w32 sum))) ≡ sum = rw (to_z-of_z w32 sum fits) (to_z-of_z w64 sum wide) in
+    let sum_is : to_z w64 (of_z w64 (to_z w32 (of_z w32 sum))) ≡ sum =
+    rw (to_z-of_z w32 sum fits) (to_z-of_z w64 sum wide) in
     let sample : c.sample_of-sample.result ≡ sample_of_sum ends sums place =
     c.sample_of-sample.ensures ∙ ap (λ z. clamp16 (scaled z (get_or ends channel 0))) sum_is
     ∙ ap (λ n. clamp16 (scaled sum (get_or ends n 0))) c.loop-place.invariant.channel_is in
@@ -31,9 +48,11 @@ loop-place-preserved c =
           (get_or c.to_le_bytes.result 0 0) (get_or c.to_le_bytes.result 1 0) (omega arith)
           (ap (λ xs. get_or xs 0 0) pair) (ap (λ xs. get_or xs 1 0) pair) c.loop-place.invariant.here;
       channel_is = elim c.if-channel-ends.branch [
-        | then-channel-ends w ↦ rw w.channel-is (channel_wraps place (length ends) channel c.loop-place.invariant.channel_is
+        | then-channel-ends w ↦ rw w.channel-is
+            (channel_wraps place (length ends) channel c.loop-place.invariant.channel_is
             w.if-channel-ends.true)
-        | else-channel-ends w ↦ rw w.channel-is (channel_goes place (length ends) channel c.loop-place.invariant.channel_is
+        | else-channel-ends w ↦ rw w.channel-is
+            (channel_goes place (length ends) channel c.loop-place.invariant.channel_is
             w.if-channel-ends.false (omega arith))
       ];
     }
