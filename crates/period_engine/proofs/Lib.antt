@@ -8,3 +8,4 @@ pub mod SoundSteps
 pub mod DueSums
 pub mod SoundMix
 pub mod Mixable
+pub mod SameEntries

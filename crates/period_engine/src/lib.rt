@@ -6,6 +6,8 @@ mod device_write;
 mod entry;
 mod picked;
 mod sounding;
+#[cfg(test)]
+mod tests;
 mod writing;
 
 pub use entry::StreamEntry;
