@@ -118,7 +118,7 @@ pub record Headline (entries : List Entry) (new : State) : Type 0 where
   pub kept : (n : ℕ) → IsKept (pending_of n (whole_stage entries)) (all_handed n empty_stage entries)
       (fates n empty_stage (moves_of entries))
   -- over all streams that ever were the frames released are those rendered, padding, reset and dropped, as the tally
-  -- counts them
+  -- counts them up to its greatest count
   pub totals : AddsUp (clients (whole_stage entries)) (moves_of entries)
   pub tally : IsTally new.tally (clients (whole_stage entries)) (moves_of entries)
   -- a closed stream has no padding

@@ -1,16 +1,18 @@
 -- Counts of fates: over all streams the frames add up, and the tally is how many fates of each kind there are.
-use Rattle.std.proofs.Common.{◌≡◌, ℕ, suc, ◌+◌, ◌-◌, ◌==◌, List, [], ◌∷◌, ◌++◌, length, map, take, Bool, true, false}
-use Rattle.std.proofs.Common.{cond, Option, Some, None, refl, sym, ap, ap₂, ◌∙◌, length-drop, length-take-le, arith}
-use Rattle.std.proofs.Common.{sum_by, count_by, eqb, eqb-true, if◌then◌else◌, zero-add}
+use Rattle.std.proofs.Common.{◌≡◌, ℕ, suc, ◌+◌, ◌-◌, ◌≤◌, ◌==◌, min, subst, List, [], ◌∷◌, ◌++◌, length, map, take}
+use Rattle.std.proofs.Common.{Bool, true, false, cond, Option, Some, None, refl, sym, ap, ap₂, ◌∙◌}
+use Rattle.std.proofs.Common.{length-drop, length-take-le, arith, sum_by, count_by, eqb, eqb-true}
+use Rattle.std.proofs.Common.{if◌then◌else◌, zero-add}
 use Rattle.std.proofs.lemmas.Bool.{and_left, or_parts, or_from}
 use Rattle.std.proofs.lemmas.List.Sums.{sum_by-cons, sum_by-append}
 use Rattle.std.specs.List.{list_any}
+use Rattle.ca_base.specs.declared.limits.TheConstants.{MAX_TALLY}
 use Rattle.ca_stage.specs.Stage.{empty_stage, Frame, Stream, Stage, is_open}
 use Rattle.ca_stage.specs.Moves.{StreamMove, reset, closed, retired, Move, of_client, is_open_of, after_move}
 use Rattle.ca_stage.specs.Moves.{after_moves, stream_at}
 use Rattle.ca_stage.specs.Fates.{Fate, Rendered, Reset, Dropped, of_found, rendered_from, fates_given, fated_by}
 use Rattle.ca_stage.specs.Fates.{next_of, pending_of, all_released, fates, is_rendered, is_reset, is_dropped}
-use Rattle.ca_stage.specs.Tally.{Tally, no_tally, tally_of_stream, tally_of_found, tally_by, tally_after}
+use Rattle.ca_stage.specs.Tally.{Tally, no_tally, counted, tally_of_stream, tally_of_found, tally_by, tally_after}
 use Rattle.ca_stage.specs.Order.{clients, IsWithout, AreDistinct, IsHeld, IsStage}
 use Rattle.ca_stage.specs.Laws.{IsKept, AddsUp, Totals, Tallies}
 use Rattle.ca_stage.proofs.Lists.{all_found}
@@ -146,19 +148,31 @@ sum_same f g [] h = refl
 sum_same f g (n ∷ ns) h =
     sum_by-cons f n ns ∙ ap₂ (λ a b. a + b) (h n) (sum_same f g ns h) ∙ sym (sum_by-cons g n ns)
 
+-- a count that adds nothing, and one that adds twice
+pub counted_none : (t : ℕ) {k : ℕ} → t ≤ MAX_TALLY → k ≡ 0 → t ≡ counted t k
+counted_none t h e = omega arith
+
+pub counted_twice : (t a b : ℕ) {c : ℕ} → c ≡ a + b → counted (counted t a) b ≡ counted t c
+counted_twice t a b e = omega arith
+
+pub counted_most : (t a : ℕ) → counted t a ≤ MAX_TALLY
+counted_most t a = omega arith
+
 -- one kind of fate, and the count of it in a tally
 module _ (kind : Fate → Bool) (field : Tally → ℕ) (moves : (m : StreamMove) (next : ℕ) (s : Stream) (t : Tally) →
-    IsHeld s → field (tally_of_stream m s t) ≡ field t + count_by kind (fates_given m next s)) where
+    IsHeld s → field t ≤ MAX_TALLY →
+    field (tally_of_stream m s t) ≡ counted (field t) (count_by kind (fates_given m next s))) where
   tally_found : (st : Stage) (client : ℕ) (m : StreamMove) (o : Option Stream) (t : Tally) →
-      ((s : Stream) → o ≡ Some s → IsHeld s) →
-      field (tally_of_found client m o t) ≡ field t + count_by kind (of_found (fated_by st (of_client client m)) o)
-  tally_found st client m None t h = omega arith
-  tally_found st client m (Some s) t h = go (is_open_of client s)
+      ((s : Stream) → o ≡ Some s → IsHeld s) → field t ≤ MAX_TALLY →
+      field (tally_of_found client m o t)
+      ≡ counted (field t) (count_by kind (of_found (fated_by st (of_client client m)) o))
+  tally_found st client m None t h l = counted_none (field t) l refl
+  tally_found st client m (Some s) t h l = go (is_open_of client s)
     where
       go : (b : Bool) → field (if b then tally_of_stream m s t else t)
-          ≡ field t + count_by kind (if b then fates_given m (next_of s.endpoint st) s else [])
-      go true = moves m (next_of s.endpoint st) s t (h s refl)
-      go false = omega arith
+          ≡ counted (field t) (count_by kind (if b then fates_given m (next_of s.endpoint st) s else []))
+      go true = moves m (next_of s.endpoint st) s t (h s refl) l
+      go false = counted_none (field t) l refl
 
   -- what a move adds over all clients
   abbrev added_by : Stage → Move → ℕ → ℕ
@@ -179,30 +193,24 @@ module _ (kind : Fate → Bool) (field : Tally → ℕ) (moves : (m : StreamMove
   none_adds st x n e = ap (count_by kind) e
 
   tally_step : (st : Stage) (x : Move) (t : Tally) (ns : List ℕ) → IsStage st → AreDistinct ns →
-      ((n : ℕ) → IsWithout n ns → stream_at n st ≡ None) →
-      field (tally_by st x t) ≡ field t + sum_by (added_by st x) ns
-  tally_step st (of_client client m) t ns h d w =
-      tally_found st client m (stream_at client st) t (λ s e. all_found IsHeld (is_of client) st.streams s h.held e)
-      ∙ ap (λ k. field t + k) (sym (sum_only (added_by st (of_client client m)) client ns d
+      ((n : ℕ) → IsWithout n ns → stream_at n st ≡ None) → field t ≤ MAX_TALLY →
+      field (tally_by st x t) ≡ counted (field t) (sum_by (added_by st x) ns)
+  tally_step st (of_client client m) t ns h d w l =
+      tally_found st client m (stream_at client st) t (λ s e. all_found IsHeld (is_of client) st.streams s h.held e) l
+      ∙ ap (counted (field t)) (sym (sum_only (added_by st (of_client client m)) client ns d
       (λ n e. other_adds st client m n e (stream_at n st) refl)
       (λ k. ap (λ (o : Option Stream). count_by kind (of_found (fated_by st (of_client client m)) o)) (w client k))))
-  tally_step st x t ns h d w = still (sum_zero (added_by st x) ns (λ n. no_fates (stream_at n st)))
-    where
-      still : {k : ℕ} → k ≡ 0 → field t ≡ field t + k
-      still e = omega arith
+  tally_step st x t ns h d w l = counted_none (field t) l (sum_zero (added_by st x) ns (λ n. no_fates (stream_at n st)))
 
-  pub tally_all : (t : Tally) (st : Stage) (xs : List Move) → IsStage st →
-      field (tally_after t st xs) ≡ field t + sum_by (λ n. count_by kind (fates n st xs)) (clients (after_moves st xs))
-  tally_all t st [] h = nothing (sum_zero (λ n. count_by kind []) (clients st) (λ n. refl))
-    where
-      nothing : {k : ℕ} → k ≡ 0 → field t ≡ field t + k
-      nothing e = omega arith
-  tally_all t st (x ∷ xs) h =
+  pub tally_all : (t : Tally) (st : Stage) (xs : List Move) → IsStage st → field t ≤ MAX_TALLY →
+      field (tally_after t st xs)
+      ≡ counted (field t) (sum_by (λ n. count_by kind (fates n st xs)) (clients (after_moves st xs)))
+  tally_all t st [] h l = counted_none (field t) l (sum_zero (λ n. count_by kind []) (clients st) (λ n. refl))
+  tally_all t st (x ∷ xs) h l =
       tally_all (tally_by st x t) (after_move st x) xs (stage_step st x h)
-      ∙ ap (λ k. k + sum_by (λ n. count_by kind (fates n (after_move st x) xs)) ns)
-      (tally_step st x t ns h (rising_distinct 0 ns (stage_after st (x ∷ xs) h).rising)
-      (λ n w. found_none n st.streams (without_before n st (x ∷ xs) w)))
-      ∙ regroup (field t) _ _ _
+      (subst (λ k. k ≤ MAX_TALLY) (sym step) (counted_most (field t) (sum_by (added_by st x) ns)))
+      ∙ ap (λ k. counted k (sum_by (λ n. count_by kind (fates n (after_move st x) xs)) ns)) step
+      ∙ counted_twice (field t) _ _
       (sum_same (λ n. count_by kind (fates n st (x ∷ xs))) _ ns
       (λ n. count-append kind (of_found (fated_by st x) (stream_at n st)) (fates n (after_move st x) xs))
       ∙ sum_pairs (added_by st x) (λ n. count_by kind (fates n (after_move st x) xs)) ns)
@@ -210,8 +218,10 @@ module _ (kind : Fate → Bool) (field : Tally → ℕ) (moves : (m : StreamMove
       ns : List ℕ
       ns = clients (after_moves st (x ∷ xs))
 
-      regroup : (t a b c : ℕ) → c ≡ a + b → (t + a) + b ≡ t + c
-      regroup t a b c e = omega arith
+      step : field (tally_by st x t) ≡ counted (field t) (sum_by (added_by st x) ns)
+      step =
+          tally_step st x t ns h (rising_distinct 0 ns (stage_after st (x ∷ xs) h).rising)
+          (λ n w. found_none n st.streams (without_before n st (x ∷ xs) w)) l
 
 -- the frames that a Retire renders
 pub retired_frames : (s : Stream) → IsHeld s → length (take s.picked s.buffer_data.pending) ≡ s.picked
@@ -224,46 +234,57 @@ more_by t e = omega arith
 pub same_by : (t : ℕ) {a : ℕ} → a ≡ 0 → t ≡ t + a
 same_by t e = omega arith
 
-rendered_moves : (m : StreamMove) (next : ℕ) (s : Stream) (t : Tally) → IsHeld s →
-    (tally_of_stream m s t).rendered ≡ t.rendered + count_by is_rendered (fates_given m next s)
-rendered_moves retired next s t h =
-    more_by t.rendered
+counted_more : (t : ℕ) {a b : ℕ} → a ≡ b → counted t b ≡ counted t a
+counted_more t e = ap (counted t) (sym e)
+
+rendered_moves : (m : StreamMove) (next : ℕ) (s : Stream) (t : Tally) → IsHeld s → t.rendered ≤ MAX_TALLY →
+    (tally_of_stream m s t).rendered ≡ counted t.rendered (count_by is_rendered (fates_given m next s))
+rendered_moves retired next s t h l =
+    counted_more t.rendered
     (count-rendered_from is_rendered true (λ n p. refl) s.endpoint next (take s.picked s.buffer_data.pending)
     ∙ retired_frames s h)
-rendered_moves reset next s t h =
-    same_by t.rendered (count-map is_rendered false (λ frame. Reset) (λ frame. refl) s.buffer_data.pending)
-rendered_moves (closed reason) next s t h =
-    same_by t.rendered (count-map is_rendered false (λ frame. Dropped reason) (λ frame. refl) s.buffer_data.pending)
-rendered_moves _ next s t h = omega arith
+rendered_moves reset next s t h l =
+    counted_none t.rendered l (count-map is_rendered false (λ frame. Reset) (λ frame. refl) s.buffer_data.pending)
+rendered_moves (closed reason) next s t h l =
+    counted_none t.rendered l
+    (count-map is_rendered false (λ frame. Dropped reason) (λ frame. refl) s.buffer_data.pending)
+rendered_moves _ next s t h l = counted_none t.rendered l refl
 
-reset_moves : (m : StreamMove) (next : ℕ) (s : Stream) (t : Tally) → IsHeld s →
-    (tally_of_stream m s t).reset ≡ t.reset + count_by is_reset (fates_given m next s)
-reset_moves retired next s t h =
-    same_by t.reset
+reset_moves : (m : StreamMove) (next : ℕ) (s : Stream) (t : Tally) → IsHeld s → t.reset ≤ MAX_TALLY →
+    (tally_of_stream m s t).reset ≡ counted t.reset (count_by is_reset (fates_given m next s))
+reset_moves retired next s t h l =
+    counted_none t.reset l
     (count-rendered_from is_reset false (λ n p. refl) s.endpoint next (take s.picked s.buffer_data.pending))
-reset_moves reset next s t h =
-    more_by t.reset (count-map is_reset true (λ frame. Reset) (λ frame. refl) s.buffer_data.pending)
-reset_moves (closed reason) next s t h =
-    same_by t.reset (count-map is_reset false (λ frame. Dropped reason) (λ frame. refl) s.buffer_data.pending)
-reset_moves _ next s t h = omega arith
+reset_moves reset next s t h l =
+    counted_more t.reset (count-map is_reset true (λ frame. Reset) (λ frame. refl) s.buffer_data.pending)
+reset_moves (closed reason) next s t h l =
+    counted_none t.reset l (count-map is_reset false (λ frame. Dropped reason) (λ frame. refl) s.buffer_data.pending)
+reset_moves _ next s t h l = counted_none t.reset l refl
 
-dropped_moves : (m : StreamMove) (next : ℕ) (s : Stream) (t : Tally) → IsHeld s →
-    (tally_of_stream m s t).dropped ≡ t.dropped + count_by is_dropped (fates_given m next s)
-dropped_moves retired next s t h =
-    same_by t.dropped
+dropped_moves : (m : StreamMove) (next : ℕ) (s : Stream) (t : Tally) → IsHeld s → t.dropped ≤ MAX_TALLY →
+    (tally_of_stream m s t).dropped ≡ counted t.dropped (count_by is_dropped (fates_given m next s))
+dropped_moves retired next s t h l =
+    counted_none t.dropped l
     (count-rendered_from is_dropped false (λ n p. refl) s.endpoint next (take s.picked s.buffer_data.pending))
-dropped_moves reset next s t h =
-    same_by t.dropped (count-map is_dropped false (λ frame. Reset) (λ frame. refl) s.buffer_data.pending)
-dropped_moves (closed reason) next s t h =
-    more_by t.dropped (count-map is_dropped true (λ frame. Dropped reason) (λ frame. refl) s.buffer_data.pending)
-dropped_moves _ next s t h = omega arith
+dropped_moves reset next s t h l =
+    counted_none t.dropped l (count-map is_dropped false (λ frame. Reset) (λ frame. refl) s.buffer_data.pending)
+dropped_moves (closed reason) next s t h l =
+    counted_more t.dropped (count-map is_dropped true (λ frame. Dropped reason) (λ frame. refl) s.buffer_data.pending)
+dropped_moves _ next s t h l = counted_none t.dropped l refl
 
-from_zero : {a b : ℕ} → a ≡ 0 + b → a ≡ b
-from_zero e = omega arith
+-- a count from nothing on
+from_zero : {a : ℕ} (b : ℕ) → a ≡ counted 0 b → a ≡ min MAX_TALLY b
+from_zero b e = omega arith
 
 pub tallies : Tallies
 tallies xs = record {
-  rendered = from_zero (tally_all is_rendered (λ t. t.rendered) rendered_moves no_tally empty_stage xs empty_is_stage);
-  reset = from_zero (tally_all is_reset (λ t. t.reset) reset_moves no_tally empty_stage xs empty_is_stage);
-  dropped = from_zero (tally_all is_dropped (λ t. t.dropped) dropped_moves no_tally empty_stage xs empty_is_stage);
+  rendered =
+      from_zero _ (tally_all is_rendered (λ t. t.rendered) rendered_moves no_tally empty_stage xs empty_is_stage z);
+  reset =
+      from_zero _ (tally_all is_reset (λ t. t.reset) reset_moves no_tally empty_stage xs empty_is_stage z);
+  dropped =
+      from_zero _ (tally_all is_dropped (λ t. t.dropped) dropped_moves no_tally empty_stage xs empty_is_stage z);
 }
+  where
+    z : 0 ≤ MAX_TALLY
+    z = omega arith

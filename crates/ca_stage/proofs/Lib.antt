@@ -20,6 +20,9 @@ pub mod Sums
 pub mod Once
 pub mod Rise
 pub mod Presence
+pub mod MapMoves
+pub mod MapTallies
+pub mod StreamPlaces
 pub mod Periods
 mod Worked
 mod WorkedMix

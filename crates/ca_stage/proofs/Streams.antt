@@ -55,7 +55,7 @@ stays _ s c = refl
 abbrev pub is_of : ℕ → Stream → Bool
 is_of n s = s.client == n
 
-find_other : (test : Stream → Bool) (new : Stream) (streams : List Stream) → test new ≡ false →
+pub find_other : (test : Stream → Bool) (new : Stream) (streams : List Stream) → test new ≡ false →
     find test (inserted new streams) ≡ find test streams
 find_other test new [] e = ap (λ b. cond b (Some new) None) e
 find_other test new (s ∷ streams) e =
@@ -68,7 +68,8 @@ find_head : (b : Bool) (s : Stream) (o : Option Stream) → cond b (Some s) o �
 find_head true s o h = absurd (none-some s (sym h))
 find_head false s o h = (refl, h)
 
-find_new : (test : Stream → Bool) (new : Stream) (streams : List Stream) → test new ≡ true → find test streams ≡ None →
+pub find_new : (test : Stream → Bool) (new : Stream) (streams : List Stream) → test new ≡ true →
+    find test streams ≡ None →
     find test (inserted new streams) ≡ Some new
 find_new test new [] e h = ap (λ b. cond b (Some new) None) e
 find_new test new (s ∷ streams) e h =

@@ -1,8 +1,9 @@
 -- The laws of the stage over lists of moves (this project's own).
 use Rattle.std.specs.Prelude.{◌≡◌, ℕ, ◌+◌, ◌-◌, ◌<◌, ◌≤◌, ◌==◌, ◌&&◌, nat_lt, nat_le, List, [], ◌∷◌, ◌++◌, length, map}
 use Rattle.std.specs.Prelude.{drop, slice_get, Bool, true, false, Option, Some, None, if◌then◌else◌, sum_by, count_by}
-use Rattle.std.specs.Prelude.{flat_map}
+use Rattle.std.specs.Prelude.{min, flat_map}
 use Rattle.std.specs.List.{AllByRecursion}
+use Rattle.ca_base.specs.declared.limits.TheConstants.{MAX_TALLY}
 use Rattle.ca_stage.specs.Stage.{empty_stage, Frame, Stream, Playhead, Stage, padding, is_open}
 use Rattle.ca_stage.specs.Moves.{sub_steps, after_period, Move, sounded, Mixing, after_move, after_moves, playhead_at}
 use Rattle.ca_stage.specs.Moves.{stream_at}
@@ -58,11 +59,11 @@ AddsUp numbers xs =
 abbrev pub Totals : Type 0
 Totals = (xs : List Move) → AddsUp (clients (after_moves empty_stage xs)) xs
 
--- the tally is how many fates of each kind there are, over all streams that there ever were
+-- the tally is how many fates of each kind there are, over all streams that there ever were, and saturates
 pub record IsTally (t : Tally) (numbers : List ℕ) (xs : List Move) : Type 0 where
-  pub rendered : t.rendered ≡ count_fates is_rendered numbers xs
-  pub reset : t.reset ≡ count_fates is_reset numbers xs
-  pub dropped : t.dropped ≡ count_fates is_dropped numbers xs
+  pub rendered : t.rendered ≡ min MAX_TALLY (count_fates is_rendered numbers xs)
+  pub reset : t.reset ≡ min MAX_TALLY (count_fates is_reset numbers xs)
+  pub dropped : t.dropped ≡ min MAX_TALLY (count_fates is_dropped numbers xs)
 
 abbrev pub Tallies : Type 0
 Tallies = (xs : List Move) → IsTally (tally_after no_tally empty_stage xs) (clients (after_moves empty_stage xs)) xs

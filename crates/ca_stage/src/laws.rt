@@ -34,7 +34,7 @@ pub fn totals()
     ensures { Totals }
 {}
 
-/// The tally is how many frames were rendered, reset and dropped, over all streams.
+/// The tally is how many frames were rendered, reset and dropped, over all streams. Each count saturates at MAX_TALLY.
 #[tactic(auto, using(crate::proofs::Counting::tallies))]
 pub fn tallies()
     ensures { Tallies }
@@ -70,8 +70,8 @@ pub fn frames_fit()
     ensures { FramesFit }
 {}
 
-/// The frames of a Sound are as many as its period has, each of 16 bits a channel, and each is the mix of the frames that
-/// are due there.
+/// The frames of a Sound are as many as its period has, each of 16 bits a channel, and each is the mix of the frames
+/// that are due there.
 pub fn mix_sums()
     ensures { MixSums }
 {}
