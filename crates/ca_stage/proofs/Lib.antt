@@ -20,9 +20,10 @@ pub mod Sums
 pub mod Once
 pub mod Rise
 pub mod Presence
+pub mod StreamPlaces
 pub mod MapMoves
 pub mod MapTallies
-pub mod StreamPlaces
 pub mod Periods
+pub mod MapPeriods
 mod Worked
 mod WorkedMix

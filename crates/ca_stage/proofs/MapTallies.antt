@@ -1,5 +1,5 @@
 -- What the same move of several clients' streams adds to the tally: a sum over the streams.
-use Rattle.std.proofs.Common.{◌≡◌, ℕ, ◌+◌, ◌≤◌, ◌==◌, List, [], ◌∷◌, map, Bool, true, false, cond, Option, Some, None}
+use Rattle.std.proofs.Common.{◌≡◌, ℕ, ◌+◌, ◌≤◌, ◌==◌, List, [], ◌∷◌, ◌++◌, map, Bool, true, false, cond, Option, Some, None}
 use Rattle.std.proofs.Common.{refl, sym, ap, ap₂, ◌∙◌, subst, find, sum_by, arith, eqb-true, zero-add, if◌then◌else◌}
 use Rattle.std.proofs.lemmas.Bool.{and_left}
 use Rattle.std.proofs.lemmas.List.Sums.{sum_by-cons}
@@ -8,7 +8,7 @@ use Rattle.ca_base.specs.declared.ids.Reason.{Reason}
 use Rattle.ca_base.specs.declared.limits.TheConstants.{MAX_TALLY}
 use Rattle.ca_stage.specs.Stage.{Stream, Stage, padding}
 use Rattle.ca_stage.specs.Moves.{StreamMove, closed, retired, of_client, moved, is_open_of, stream_after}
-use Rattle.ca_stage.specs.Moves.{after_move, stream_at}
+use Rattle.ca_stage.specs.Moves.{Move, after_move, after_moves, stream_at}
 use Rattle.ca_stage.specs.Tally.{Tally, counted, tally_of_stream, tally_of_found, tally_by, tally_after}
 use Rattle.ca_stage.specs.Order.{clients, is_among, RisesFrom}
 use Rattle.ca_stage.proofs.Lists.{all_both, all_of}
@@ -177,6 +177,12 @@ module _ (m : StreamMove) (amount : Stream → ℕ) (count : Tally → ℕ) (wit
       later : ℕ
       later =
           sum_by (amount_where (is_open_among numbers) amount) (map (stream_after (of_client n m)) st.streams)
+
+-- a tally after one list of moves and then another
+pub tally-append : (xs ys : List Move) (t : Tally) (st : Stage) →
+    tally_after t st (xs ++ ys) ≡ tally_after (tally_after t st xs) (after_moves st xs) ys
+tally-append [] ys t st = refl
+tally-append (x ∷ xs) ys t st = tally-append xs ys (tally_by st x t) (after_move st x)
 
 -- several clients' streams are closed: what they had pending is dropped
 pub closes_tally : (reason : Reason) (gone : List ℕ) (st : Stage) (t : Tally) → RisesFrom 0 (clients st) →

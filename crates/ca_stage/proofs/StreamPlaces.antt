@@ -1,7 +1,7 @@
 -- One stream of a stage in order: a move of its client sets it in its place, and a new one is set in its place.
 use Rattle.std.proofs.Common.{◌≡◌, ℕ, zero, suc, ◌<◌, ◌≤◌, ◌==◌, List, [], ◌∷◌, map, take, drop, true, false}
 use Rattle.std.proofs.Common.{Some, refl, sym, ap, ap₂, ◌∙◌, find, slice_get, slice_set, arith, cond, eq-eqb}
-use Rattle.std.proofs.Common.{if◌then◌else◌, length}
+use Rattle.std.proofs.Common.{if◌then◌else◌, length, filter, Bool}
 use Rattle.std.proofs.lemmas.Bool.{and_left, and_from, or_from}
 use Rattle.std.proofs.lemmas.List.{set-get_or}
 use Rattle.std.proofs.lemmas.Option.{same_Some, none-some, get_or_from_slice_get}
@@ -10,12 +10,14 @@ use Rattle.ca_stage.specs.Stage.{Stream, Stage, is_open}
 use Rattle.ca_stage.specs.Moves.{StreamMove, opened, of_client, moved, is_open_of, stream_after, has_stream}
 use Rattle.ca_stage.specs.Moves.{as_opened, inserted, with_opened, after_move, stream_at}
 use Rattle.ca_stage.specs.Tally.{Tally, tally_of_stream, tally_of_found, tally_by}
-use Rattle.ca_stage.specs.Order.{clients, IsWithout, RisesFrom}
-use Rattle.ca_stage.proofs.Lists.{all_weaker, chosen, map_same}
+use Rattle.ca_stage.specs.Order.{clients, IsHeld, IsSettled, IsStage, IsWithout, RisesFrom}
+use Rattle.ca_stage.specs.Present.{present}
+use Rattle.ca_stage.proofs.Lists.{all-filter, all_weaker, chosen, map_same}
 use Rattle.ca_stage.proofs.Streams.{is_of, not_open_of, find_other, find_new}
 use Rattle.ca_stage.proofs.Clients.{clients_of, found_none, inserted_at, lt_ne}
 use Rattle.ca_stage.proofs.Clients.{others, same_any, turned}
 use Rattle.ca_stage.proofs.Playheads.{playheads_stay}
+use Rattle.ca_stage.proofs.Presence.{is_left}
 
 -- streams from a number on are those of other clients than one below it
 others_stay : (n : ℕ) (m : StreamMove) (low : ℕ) (streams : List Stream) → n < low →
@@ -117,7 +119,7 @@ module _ (m : StreamMove) (at : ℕ) (st : Stage) (s : Stream) (r : RisesFrom 0 
       ∙ ap (λ b. if b then tally_of_stream m s t else t) (not_open_of s.client s o)
 
 -- what no move changes
-same_each : {A : Type 0} (f : A → A) (xs : List A) → AllByRecursion (λ x. f x ≡ x) xs → map f xs ≡ xs
+pub same_each : {A : Type 0} (f : A → A) (xs : List A) → AllByRecursion (λ x. f x ≡ x) xs → map f xs ≡ xs
 same_each f [] h = refl
 same_each f (x ∷ xs) h = ap₂ (λ y ys. y ∷ ys) h.0 (same_each f xs h.1)
 
@@ -216,3 +218,29 @@ opened_own new st w =
     (same_any new.client st.streams ∙ w)
     ∙ find_new (is_of new.client) (as_opened new) st.streams (eq-eqb new.client new.client refl)
     (found_none new.client st.streams w)
+
+-- ---- the present part of a stage in order is in order
+
+rises_lower : (low high : ℕ) (ns : List ℕ) → low ≤ high → RisesFrom high ns → RisesFrom low ns
+rises_lower low high [] l r = tt
+rises_lower low high (n ∷ ns) l r =
+    let k = r.0 in
+    (omega arith, r.1)
+
+pub rising_filter : (test : Stream → Bool) (low : ℕ) (streams : List Stream) → RisesFrom low (clients_of streams) →
+    RisesFrom low (clients_of (filter test streams))
+rising_filter test low [] r = tt
+rising_filter test low (s ∷ streams) r = go (test s) r.0 (rising_filter test (suc s.client) streams r.1)
+  where
+    go : (b : Bool) → low ≤ s.client → RisesFrom (suc s.client) (clients_of (filter test streams)) →
+        RisesFrom low (clients_of (cond b (s ∷ filter test streams) (filter test streams)))
+    go true l k = (l, k)
+    go false l k = rises_lower low (suc s.client) (clients_of (filter test streams)) (omega arith) k
+
+pub stage_present : (numbers : List ℕ) (st : Stage) → IsStage st → IsStage (present numbers st)
+stage_present numbers st h = record {
+  rising = rising_filter (is_left numbers) 0 st.streams h.rising;
+  playheads = h.playheads;
+  settled = all-filter IsSettled (is_left numbers) st.streams h.settled;
+  held = all-filter IsHeld (is_left numbers) st.streams h.held;
+}
