@@ -1,4 +1,5 @@
 pub mod LiveClients
+pub mod ClosesOfClients
 pub mod PeriodMoves
 pub mod PresentStage
 pub mod Playheads

@@ -7,11 +7,12 @@ use Rattle.ca_base.specs.declared.ids.Reason.TheVariants.{Released}
 use Rattle.ca_stage.specs.Stage.{empty_stage, Stream, Stage}
 use Rattle.ca_stage.specs.Moves.{Move, added, of_client, closed, after_move, after_moves}
 use Rattle.ca_stage.specs.Woven.{IsWoven}
-use Rattle.ca_stage.specs.Tally.{Tally, no_tally, tally_by, tally_after}
+use Rattle.ca_stage.specs.Tally.{no_tally, tally_after}
 use Rattle.ca_stage.specs.Order.{is_among}
 use Rattle.ca_stage.specs.Present.{present, AreGone}
 use Rattle.ca_stage.proofs.Lists.{all-append, all-filter, all_weaker}
 use Rattle.ca_stage.proofs.Stages.{after_moves-append, woven-append}
+use Rattle.ca_stage.proofs.MapTallies.{tally-append}
 use Rattle.ca_machine.specs.declared.state.Client.{Client}
 use Rattle.ca_machine.specs.declared.state.Connection.{Connection}
 use Rattle.ca_machine.specs.declared.state.Endpoint.{Endpoint}
@@ -56,11 +57,6 @@ among_made k n (c ∷ clients) h a = go (c.client.0 == n) refl a (λ b. among_ma
         (is_among n (live_clients clients) ≡ true → n ≤ k) → c.client.0 ≤ k → n ≤ k
     go true e a f l = subst (λ m. m ≤ k) (eqb-true c.client.0 n e) l
     go false e a f l = f a
-
-tally-append : (xs ys : List Move) (t : Tally) (st : Stage) →
-    tally_after t st (xs ++ ys) ≡ tally_after (tally_after t st xs) (after_moves st xs) ys
-tally-append [] ys t st = refl
-tally-append (x ∷ xs) ys t st = tally-append xs ys (tally_by st x t) (after_move st x)
 
 module _ (laws : PresentLaws) where
   pub in_order_moved : (ms xs : List Move) (st : State) → IsInOrder ms st → OpenPresent (live_clients st.clients) xs →
