@@ -25,5 +25,6 @@ pub mod MapMoves
 pub mod MapTallies
 pub mod Periods
 pub mod MapPeriods
+pub mod PlayheadPlaces
 mod Worked
 mod WorkedMix

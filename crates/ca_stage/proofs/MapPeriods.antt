@@ -46,7 +46,8 @@ pick_adds_none n k (Some s) t = go (is_open_of n s)
     go true = refl
     go false = refl
 
-pub picks_tally : (k : ℕ) (left : List Stream) (t : Tally) (st : Stage) → tally_after t st (moves_of (picked k) left) ≡ t
+pub picks_tally : (k : ℕ) (left : List Stream) (t : Tally) (st : Stage) →
+    tally_after t st (moves_of (picked k) left) ≡ t
 picks_tally k [] t st = refl
 picks_tally k (s ∷ left) t st =
     ap (λ u. tally_after u (after_move st (of_client s.client (picked k))) (moves_of (picked k) left))

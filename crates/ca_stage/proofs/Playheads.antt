@@ -128,7 +128,7 @@ distinct_push m (n ∷ ns) d h =
     let p = or_parts (eqb n m) (list_any (λ k. k == m) ns) h in
     (without_push n m ns d.0 (turned n m p.0), distinct_push m ns d.1 p.1)
 
-abbrev numbers_of : List Playhead → List ℕ
+abbrev pub numbers_of : List Playhead → List ℕ
 numbers_of heads = map (λ e. e.number) heads
 
 any_number : (n : ℕ) (heads : List Playhead) → has_playhead n heads ≡ list_any (λ m. m == n) (numbers_of heads)

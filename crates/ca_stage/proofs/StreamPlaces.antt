@@ -105,6 +105,15 @@ module _ (m : StreamMove) (at : ℕ) (st : Stage) (s : Stream) (r : RisesFrom 0 
       ap (λ o. tally_of_found s.client m o t) (stream_in_place at st s r e)
       ∙ ap (λ b. if b then tally_of_stream m s t else t) (own o)
 
+  -- the same by the client's number
+  pub moved_at : (client : ℕ) → s.client ≡ client → is_open s ≡ true →
+      after_move st (of_client client m) ≡ with_stream (moved m s)
+  moved_at client same o = ap (λ n. after_move st (of_client n m)) (sym same) ∙ moved_in_place o
+
+  pub tally_at : (client : ℕ) → s.client ≡ client → is_open s ≡ true → (t : Tally) →
+      tally_by st (of_client client m) t ≡ tally_of_stream m s t
+  tally_at client same o t = ap (λ n. tally_by st (of_client n m) t) (sym same) ∙ tally_in_place o t
+
   -- a closed one stays
   pub closed_in_place : is_open s ≡ false → after_move st (of_client s.client m) ≡ st
   closed_in_place o =
