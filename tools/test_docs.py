@@ -201,7 +201,7 @@ def constants():
     values = {}
     for file in "limits.rt", "values.rt":
         for name, value in re.findall(r"const (\w+): u\w+ = ([^;]+);", text_of(f"crates/ca_base/src/{file}")):
-            values[name] = number(value, values)
+            values[name] = number(re.sub(r"\bu(\d+)::MAX\b", r"(2^\1 - 1)", value), values)
     return values
 
 
