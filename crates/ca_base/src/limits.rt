@@ -60,5 +60,6 @@ pub const MAX_STORE_WORDS: u32 = 1_048_576;
 /// Seconds of sound that a shared buffer holds at most: a larger one is cut to it.
 pub const MAX_SHARED_BUFFER_SECONDS: u32 = 2;
 
-/// Where the tally's counts of frames end: a lower bound would need what clients that are gone had released.
+/// Where the tally's counts of frames saturate: a lower bound would have to be proved from what clients that are gone
+/// had released.
 pub const MAX_TALLY: u128 = u128::MAX;

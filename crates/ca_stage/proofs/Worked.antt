@@ -5,6 +5,7 @@ use Rattle.ca_base.specs.declared.ids.Gate.TheVariants as gate
 use Rattle.ca_base.specs.declared.ids.StreamKind.{StreamKind}
 use Rattle.ca_base.specs.declared.ids.StreamKind.TheVariants as kind
 use Rattle.ca_base.specs.declared.ids.Reason.TheVariants.{Removal, Released as ReleaseReason}
+use Rattle.ca_base.specs.declared.limits.TheConstants.{MAX_TALLY}
 use Rattle.volume_stack.specs.Scaling.{unit_gain}
 use Rattle.ca_stage.specs.Stage.{empty_stage, no_data, Frame, Stream, Stage}
 use Rattle.ca_stage.specs.Moves.{leased, released, started, stopped, reset, closed, picked, retired, Move, added}
@@ -194,6 +195,11 @@ closed_3 = refl
 
 tally_is : tally_after no_tally empty_stage worked ≡ record { rendered = 8; reset = 1; dropped = 4 }
 tally_is = refl
+
+-- a count of it saturates
+tally_saturates : tally_after (record no_tally { rendered = MAX_TALLY }) empty_stage worked
+    ≡ record { rendered = MAX_TALLY; reset = 1; dropped = 4 }
+tally_saturates = refl
 
 -- what was mixed at each place, and what is rendered there
 sounds_0 : sounds 7 0 empty_stage worked ≡ ((1, frame 11) ∷ (2, frame 21) ∷ []) ∷ []
