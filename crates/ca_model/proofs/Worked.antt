@@ -17,6 +17,9 @@ opened : frame (event.Open (record { 0 = 32 }) 266 (112 ∷ 108 ∷ []))
     ≡ 10 ∷ 0 ∷ 0 ∷ 0 ∷ 1 ∷ 32 ∷ 10 ∷ 1 ∷ 0 ∷ 0 ∷ 2 ∷ 0 ∷ 112 ∷ 108 ∷ []
 opened = refl
 
+hung_up : frame (event.Hangup (record { 0 = 32 })) ≡ 2 ∷ 0 ∷ 0 ∷ 0 ∷ 2 ∷ 32 ∷ []
+hung_up = refl
+
 -- the bytes of a call of connection 1 with tag 2, behind its code
 abbrev called : ℕ → Call → List ℕ → Type 0
 called len x rest = frame (event.Call (record { 0 = 1 }) 2 x) ≡ len ∷ 0 ∷ 0 ∷ 0 ∷ 3 ∷ 1 ∷ 2 ∷ 0 ∷ 0 ∷ 0 ∷ rest
@@ -28,6 +31,9 @@ client = 2 ∷ 1 ∷ replicate 6 0
 activated : called 12 (call.Activate (record { 0 = 3 }) 255) (5 ∷ 3 ∷ 0 ∷ 0 ∷ 0 ∷ 255 ∷ [])
 activated = refl
 
+released_client : called 15 (call.Release (record { 0 = 258 })) (6 ∷ client)
+released_client = refl
+
 -- a GUID is in the order of RFC 9562
 initialized :
     called 58 (call.Initialize (record { 0 = 258 }) 1 4 5 6 (record { list = 9 ∷ []; capacity = 1 })
@@ -36,8 +42,41 @@ initialized :
     ++ 6 ∷ replicate 7 0 ++ 1 ∷ 0 ∷ 9 ∷ replicate 14 0 ++ 2 ∷ 1 ∷ [])
 initialized = refl
 
+asked_of_size : called 15 (call.GetBufferSize (record { 0 = 258 })) (17 ∷ client)
+asked_of_size = refl
+
+asked_of_latency : called 15 (call.GetStreamLatency (record { 0 = 258 })) (18 ∷ client)
+asked_of_latency = refl
+
+asked_of_padding : called 15 (call.GetCurrentPadding (record { 0 = 258 })) (19 ∷ client)
+asked_of_padding = refl
+
+-- a share mode, and a format of two bytes
+asked_of_format :
+    called 23 (call.IsFormatSupported (record { 0 = 258 }) 1 (record { list = 8 ∷ 9 ∷ []; capacity = 2 }))
+    (20 ∷ client ++ 1 ∷ 0 ∷ 0 ∷ 0 ∷ 2 ∷ 0 ∷ 8 ∷ 9 ∷ [])
+asked_of_format = refl
+
+asked_of_mix : called 15 (call.GetMixFormat (record { 0 = 258 })) (21 ∷ client)
+asked_of_mix = refl
+
+asked_of_period : called 15 (call.GetDevicePeriod (record { 0 = 258 })) (22 ∷ client)
+asked_of_period = refl
+
 started : called 15 (call.Start (record { 0 = 258 })) (23 ∷ client)
 started = refl
+
+stopped : called 15 (call.Stop (record { 0 = 258 })) (24 ∷ client)
+stopped = refl
+
+reset : called 15 (call.Reset (record { 0 = 258 })) (25 ∷ client)
+reset = refl
+
+asked_of_service : called 19 (call.GetService (record { 0 = 258 }) 3) (27 ∷ client ++ 3 ∷ 0 ∷ 0 ∷ 0 ∷ [])
+asked_of_service = refl
+
+asked_of_position : called 15 (call.GetPosition (record { 0 = 258 })) (28 ∷ client)
+asked_of_position = refl
 
 leased : called 19 (call.GetBuffer (record { 0 = 258 }) 480) (32 ∷ client ++ 224 ∷ 1 ∷ 0 ∷ 0 ∷ [])
 leased = refl
@@ -47,7 +86,7 @@ released : called 25 (call.ReleaseBuffer (record { 0 = 258 }) 1 2 (record { list
 released = refl
 
 -- a code that isn't listed
-other : called 9 (call.Other 17 (record { list = 7 ∷ 7 ∷ []; capacity = 2 })) (17 ∷ 7 ∷ 7 ∷ [])
+other : called 9 (call.Other 200 (record { list = 7 ∷ 7 ∷ []; capacity = 2 })) (200 ∷ 7 ∷ 7 ∷ [])
 other = refl
 
 added : frame (event.Device (device.Add (record { 0 = 1 }) 0 (record { list = 6 ∷ []; capacity = 1 }) (83 ∷ [])))

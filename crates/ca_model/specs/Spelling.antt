@@ -20,7 +20,7 @@ use Rattle.std.specs.Prelude.{
 use Rattle.std.specs.List.{flat_map, AllByRecursion}
 use Rattle.std.specs.Int.{w32, to_le_bytes, from_le_bytes}
 use Rattle.ca_base.specs.declared.limits.TheConstants.{LONGEST_BODY}
-use Rattle.ca_base.specs.declared.values.TheConstants.{KIND_OPEN, KIND_CALL, KIND_PERIOD, KIND_DEVICE}
+use Rattle.ca_base.specs.declared.values.TheConstants.{KIND_OPEN, KIND_HANGUP, KIND_CALL, KIND_PERIOD, KIND_DEVICE}
 use Rattle.ca_model.specs.declared.event.Event.{Event}
 use Rattle.ca_model.specs.declared.event.Event.TheVariants as event
 use Rattle.ca_model.specs.declared.event.Call.{Call}
@@ -31,13 +31,23 @@ use Rattle.ca_model.specs.Fields.{Kind, Field, AllFit, fields_bytes}
 use Rattle.ca_model.specs.Fields.Kind.{connection, byte, four_bytes, eight_bytes, guid, text, format, rest}
 use Rattle.ca_model.specs.Fields.Field.{number, bytes}
 
--- the calls that are listed, by code, and the kinds of their fields. Those that come with later versions aren't listed
--- yet, and so have no spelling of their own
+-- the calls that are listed, by code, and the kinds of their fields
 abbrev pub calls : List (ℕ × List Kind)
 calls =
     (5, four_bytes ∷ byte ∷ [])
+    ∷ (6, eight_bytes ∷ [])
     ∷ (16, eight_bytes ∷ four_bytes ∷ four_bytes ∷ eight_bytes ∷ eight_bytes ∷ format ∷ guid ∷ [])
+    ∷ (17, eight_bytes ∷ [])
+    ∷ (18, eight_bytes ∷ [])
+    ∷ (19, eight_bytes ∷ [])
+    ∷ (20, eight_bytes ∷ four_bytes ∷ format ∷ [])
+    ∷ (21, eight_bytes ∷ [])
+    ∷ (22, eight_bytes ∷ [])
     ∷ (23, eight_bytes ∷ [])
+    ∷ (24, eight_bytes ∷ [])
+    ∷ (25, eight_bytes ∷ [])
+    ∷ (27, eight_bytes ∷ four_bytes ∷ [])
+    ∷ (28, eight_bytes ∷ [])
     ∷ (32, eight_bytes ∷ four_bytes ∷ [])
     ∷ (33, eight_bytes ∷ four_bytes ∷ four_bytes ∷ rest ∷ [])
     ∷ []
@@ -106,12 +116,14 @@ device_fields (device.Other code tail) = bytes tail.list ∷ []
 -- the kinds of an event's fields: first the byte that says what it is
 abbrev pub kinds : Event → List Kind
 kinds (event.Open c pid name) = byte ∷ connection ∷ four_bytes ∷ text ∷ []
+kinds (event.Hangup c) = byte ∷ connection ∷ []
 kinds (event.Call c tag x) = byte ∷ connection ∷ four_bytes ∷ byte ∷ or_rest (listed (call_code x) calls)
 kinds (event.Period e) = byte ∷ four_bytes ∷ []
 kinds (event.Device x) = byte ∷ byte ∷ or_rest (listed (device_code x) device_events)
 
 abbrev pub fields : Event → List Field
 fields (event.Open c pid name) = number KIND_OPEN ∷ number c.0 ∷ number pid ∷ bytes name ∷ []
+fields (event.Hangup c) = number KIND_HANGUP ∷ number c.0 ∷ []
 fields (event.Call c tag x) = number KIND_CALL ∷ number c.0 ∷ number tag ∷ number (call_code x) ∷ call_fields x
 fields (event.Period e) = number KIND_PERIOD ∷ number e.0 ∷ []
 fields (event.Device x) = number KIND_DEVICE ∷ number (device_code x) ∷ device_fields x

@@ -7,6 +7,8 @@ use ca_base::{Bytes, ClientNo, ConnNo, EndpointNo, Guid, Text};
 pub enum Event {
     /// A connection opens: its process and its name.
     Open { conn: ConnNo, pid: u32, name: Text },
+    /// A connection hangs up: its clients are released.
+    Hangup { conn: ConnNo },
     /// A call on a connection. The reply carries the same tag.
     Call { conn: ConnNo, tag: u32, call: Call },
     /// One period of an endpoint.
