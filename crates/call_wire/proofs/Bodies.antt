@@ -1,7 +1,7 @@
 -- The body of a frame: what is read is spelled so, and what is spelled so is read.
 use Rattle.std.proofs.Common.{◌≡◌, ℕ, Bool, true, false, cond, eqb, List, [], ◌∷◌, Option, Some, None, get_or, refl}
 use Rattle.std.proofs.Common.{sym, ap, subst, ◌∙◌}
-use Rattle.ca_base.specs.declared.values.TheConstants.{KIND_OPEN, KIND_CALL, KIND_PERIOD, KIND_DEVICE}
+use Rattle.ca_base.specs.declared.values.TheConstants.{KIND_OPEN, KIND_HANGUP, KIND_CALL, KIND_PERIOD, KIND_DEVICE}
 use Rattle.ca_model.specs.declared.event.Event.{Event}
 use Rattle.ca_model.specs.declared.event.Event.TheVariants as event
 use Rattle.ca_model.specs.Fields.{Kind, Field, AllFit, fields_bytes}
@@ -48,6 +48,9 @@ pub body_takes : (e : Event) (bs : List ℕ) → IsBytes bs → read_body bs ≡
 body_takes (event.Open c pid name) bs fits h =
     let e = event.Open c pid name in
     fields_take (kinds e) bs (fields e) fits (read_by e KIND_OPEN _ bs fits refl _ refl h)
+body_takes (event.Hangup c) bs fits h =
+    let e = event.Hangup c in
+    fields_take (kinds e) bs (fields e) fits (read_by e KIND_HANGUP _ bs fits refl _ refl h)
 body_takes (event.Call c tag x) bs fits h =
     let e = event.Call c tag x in
     let kinds_of : ℕ → List Kind = λ n. byte ∷ connection ∷ four_bytes ∷ byte ∷ call_kinds n in
@@ -87,12 +90,14 @@ last_in_table code (row ∷ rows) h =
 
 kinds_last : (e : Event) → rest_is_last (kinds e) ≡ true
 kinds_last (event.Open c pid name) = refl
+kinds_last (event.Hangup c) = refl
 kinds_last (event.Call c tag x) = last_in_table (call_code x) calls refl
 kinds_last (event.Period e) = refl
 kinds_last (event.Device x) = last_in_table (device_code x) device_events refl
 
 kinds_told : (e : Event) → body_kinds (body e) >>= (λ ks. Some (byte ∷ ks)) ≡ Some (kinds e)
 kinds_told (event.Open c pid name) = refl
+kinds_told (event.Hangup c) = refl
 kinds_told (event.Call c tag x) = refl
 kinds_told (event.Period e) = refl
 kinds_told (event.Device x) = refl

@@ -1,22 +1,18 @@
 -- The laws on frames, one and many.
-use Rattle.std.proofs.Common.{◌≡◌, ℕ, zero, suc, ◌+◌, ◌<◌, ◌≤◌, List, [], ◌∷◌, ◌++◌, length, take, drop, map, Option}
-use Rattle.std.proofs.Common.{Some, eqb, if◌then◌else◌, refl, sym, ap, subst, ◌∙◌, append_assoc, arith, inl, inr}
+use Rattle.std.proofs.Common.{◌≡◌, ℕ, ◌+◌, ◌<◌, ◌≤◌, List, [], ◌∷◌, ◌++◌, length, take, drop, map}
+use Rattle.std.proofs.Common.{Some, refl, sym, ap, subst, ◌∙◌, append_assoc, arith, inl, inr}
 use Rattle.std.specs.List.{AllByRecursion}
 use Rattle.std.specs.Int.{w32, from_le_bytes}
 use Rattle.std.proofs.lemmas.Bool.{cases_lt}
 use Rattle.std.proofs.lemmas.List.{take_at, drop_at, take-append-le, length-append}
 use Rattle.std.proofs.lemmas.List.Concat.{flat_map-cons}
 use Rattle.ca_base.specs.declared.limits.TheConstants.{LENGTH_SIZE, LONGEST_BODY}
-use Rattle.ca_base.specs.declared.values.TheConstants.{KIND_CALL}
 use Rattle.ca_model.specs.declared.event.Event.{Event}
-use Rattle.ca_model.specs.declared.event.Event.TheVariants as event
-use Rattle.ca_model.specs.Fields.{Kind, Field}
-use Rattle.ca_model.specs.Fields.Kind.{byte}
-use Rattle.ca_model.specs.Fields.Field.{number, bytes}
-use Rattle.ca_model.specs.Spelling.{kinds, fields, body, frame, frames, IsEvent, stated_length, IsIncomplete, Begins}
+use Rattle.ca_model.specs.Fields.{Field}
+use Rattle.ca_model.specs.Spelling.{fields, body, frame, frames, IsEvent, stated_length, IsIncomplete, Begins}
 use Rattle.ca_model.specs.Spelling.{NoEvent}
 use Rattle.ca_model.specs.Spelling.IsIncomplete.{no_length, no_body}
-use Rattle.call_wire.specs.Reading.{◌>>=◌, event_kinds, read_body}
+use Rattle.call_wire.specs.Reading.{read_body}
 use Rattle.call_wire.specs.Laws.{ReadingUndoesSpelling, SpellingUndoesReading, OneSpelling, MalformedStays, OneCut}
 use Rattle.call_wire.specs.Laws.{CutIsLongest}
 use Rattle.call_wire.proofs.Readings.{some_is}

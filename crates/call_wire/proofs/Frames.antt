@@ -16,6 +16,7 @@ use Rattle.call_wire.proofs.Bodies.{body_takes, body_again}
 
 pub body_some : (e : Event) → 0 < length (body e)
 body_some (event.Open c pid name) = omega arith
+body_some (event.Hangup c) = omega arith
 body_some (event.Call c tag x) = omega arith
 body_some (event.Period e) = omega arith
 body_some (event.Device x) = omega arith

@@ -8,7 +8,7 @@ use Rattle.std.specs.Int.{w16, w32, w64, w128, from_le_bytes, from_be_bytes}
 use Rattle.std.specs.Option.{option_map_or}
 use Rattle.ca_base.specs.declared.limits.TheConstants.{CONNECTIONS, MAX_TEXT}
 use Rattle.call_wire.specs.declared.fields.TheConstants.{MAX_FORMAT}
-use Rattle.ca_base.specs.declared.values.TheConstants.{KIND_OPEN, KIND_CALL, KIND_PERIOD, KIND_DEVICE}
+use Rattle.ca_base.specs.declared.values.TheConstants.{KIND_OPEN, KIND_HANGUP, KIND_CALL, KIND_PERIOD, KIND_DEVICE}
 use Rattle.ca_model.specs.Fields.{Kind, Field}
 use Rattle.ca_model.specs.Fields.Kind.{connection, byte, four_bytes, eight_bytes, guid, text, format, rest}
 use Rattle.ca_model.specs.Fields.Field.{number, bytes}
@@ -90,6 +90,7 @@ device_kinds code = or_rest (listed code device_events)
 abbrev pub event_kinds : ℕ → ℕ → Option (List Kind)
 event_kinds kind code =
     if kind == KIND_OPEN then Some (connection ∷ four_bytes ∷ text ∷ [])
+    else if kind == KIND_HANGUP then Some (connection ∷ [])
     else if kind == KIND_CALL then Some (connection ∷ four_bytes ∷ byte ∷ call_kinds code)
     else if kind == KIND_PERIOD then Some (four_bytes ∷ [])
     else if kind == KIND_DEVICE then Some (byte ∷ device_kinds code)

@@ -7,7 +7,7 @@ use crate::calls::read_call;
 use crate::devices::read_device;
 use crate::fault::{Fault, NoField};
 use crate::fields::{expect_end, take_connection, take_text, take_u8, take_u32};
-use ca_base::values::{KIND_CALL, KIND_DEVICE, KIND_OPEN, KIND_PERIOD};
+use ca_base::values::{KIND_CALL, KIND_DEVICE, KIND_HANGUP, KIND_OPEN, KIND_PERIOD};
 use ca_base::{EndpointNo, Text};
 use ca_model::Event;
 use std::alloc::Global;
@@ -18,6 +18,7 @@ pub fn read_event(alloc: Global, body: &[u8]) -> Result<Event, Fault>
 {
     match body {
         [KIND_OPEN, rest @ ..] => Ok(read_open_event(rest)?),
+        [KIND_HANGUP, rest @ ..] => Ok(read_hangup_event(rest)?),
         [KIND_CALL, rest @ ..] => read_call_event(alloc, rest),
         [KIND_PERIOD, rest @ ..] => Ok(read_period_event(rest)?),
         [KIND_DEVICE, rest @ ..] => read_device_event(alloc, rest),
@@ -35,6 +36,15 @@ fn read_open_event(input: &[u8]) -> Result<Event, NoField>
     expect_end(rest)?;
     let name = Text::new(name);
     Ok(Event::Open { conn, pid, name })
+}
+
+#[tactic(auto, unfolding(crate::specs::Reading::byte_at))]
+fn read_hangup_event(input: &[u8]) -> Result<Event, NoField>
+    ensures { GivesEvent result (KIND_HANGUP ∷ input.now) }
+{
+    let (conn, rest) = take_connection(input)?;
+    expect_end(rest)?;
+    Ok(Event::Hangup { conn })
 }
 
 #[tactic(auto, unfolding(crate::specs::Reading::byte_at))]

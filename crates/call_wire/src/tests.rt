@@ -87,6 +87,44 @@ fn a_code_that_is_not_listed_is_read(rt: HostRuntime) -> Result<(), Fail> {
 }
 
 #[test]
+fn a_hang_up_is_read(rt: HostRuntime) -> Result<(), Fail> {
+    let bytes = [2, 0, 0, 0, 2, 32, 255];
+    let step = next_event(rt.alloc(), &bytes).ok().ok_or("memory")?;
+    let Step::Event { event, used } = step else {
+        return Err("the bytes are an event".into());
+    };
+    assert_eq!(rt; used, 6);
+    let Event::Hangup { conn } = event else {
+        return Err("the event is a hang-up".into());
+    };
+    assert_eq!(rt; conn.0, 32);
+    Ok(())
+}
+
+#[test]
+fn a_call_of_a_client_alone_is_read(rt: HostRuntime) -> Result<(), Fail> {
+    let mut bytes = [15, 0, 0, 0, 3, 1, 2, 0, 0, 0, 0, 3, 0, 0, 0, 0, 0, 0, 0];
+    let codes = [6, 17, 18, 19, 21, 22, 23, 24, 25, 28];
+    for code in codes {
+        bytes[10] = code;
+        let step = next_event(rt.alloc(), &bytes).ok().ok_or("memory")?;
+        let Step::Event { event, .. } = step else {
+            return Err("the bytes are an event".into());
+        };
+        let listed = !matches!(
+            event,
+            Event::Call {
+                call: Call::Other { .. },
+                ..
+            }
+        );
+        assert!(rt; listed, "code {code}");
+        assert!(rt; body_is_malformed(rt, &bytes[4..18])?, "code {code}");
+    }
+    Ok(())
+}
+
+#[test]
 fn an_incomplete_prefix_needs_more(rt: HostRuntime) {
     for len in 0..PERIOD.len() {
         let step = next_event(rt.alloc(), &PERIOD[..len]);
@@ -106,7 +144,7 @@ fn an_invalid_length_is_malformed(rt: HostRuntime) {
 
 #[test]
 fn bodies_of_no_event_are_malformed(rt: HostRuntime) -> Result<(), Fail> {
-    let unknown = [0, 2, 6, 7, 8, 255];
+    let unknown = [0, 6, 7, 8, 255];
     for kind in unknown {
         assert!(rt; body_is_malformed(rt, &[kind])?, "kind {kind}");
         assert!(rt; body_is_malformed(rt, &[kind, 1])?, "kind {kind} of one");
@@ -124,6 +162,7 @@ fn bodies_of_no_event_are_malformed(rt: HostRuntime) -> Result<(), Fail> {
         body_is_malformed(rt, &[4, 1, 0, 0, 0, 0])?,
         "a byte too long"
     );
+    assert!(rt; body_is_malformed(rt, &[2])?, "a hang-up of no connection");
     Ok(())
 }
 
