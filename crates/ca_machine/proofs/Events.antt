@@ -322,6 +322,8 @@ pub upholds_event : (laws : PresentLaws) (ms : List Move) (st : State) → IsInO
     (given : List Answer) → AreAnswers (asks st e) given → Upholds ms st e (step st e given)
 upholds_event laws ms st h (event.Open c process name) given a =
     upholds_open laws ms st h (event.Open c process name) c.0 process name given (λ n channels. refl)
+upholds_event laws ms st h (event.Hangup c) given a =
+    upholds_hangup laws ms st h (event.Hangup c) c.0 given (λ n channels. refl)
 upholds_event laws ms st h (event.Call c tag x) given a =
     upholds_call laws ms st h (event.Call c tag x) c.0 x given (λ n channels. refl)
 upholds_event laws ms st h (event.Period d) given a =

@@ -5,7 +5,7 @@ use Rattle.ca_machine.specs.State.{State}
 use Rattle.ca_machine.specs.Plan.{found, out_of_memory, took, failed}
 use Rattle.ca_machine.specs.Step.{IsRun}
 use Rattle.ca_machine.proofs.WorkedTurns.{Turn, replies, output, after, entries_of, run_of, ok, u32, u64, says, stereo}
-use Rattle.ca_machine.proofs.WorkedTurns.{slower, opens, hung_up_of, activates, initializes_with, initializes, size_of}
+use Rattle.ca_machine.proofs.WorkedTurns.{slower, opens, hangs_up, activates, initializes_with, initializes, size_of}
 use Rattle.ca_machine.proofs.WorkedTurns.{gets, releases, padding_of, position_of, starts, stops, resets, leaves}
 use Rattle.ca_machine.proofs.WorkedTurns.{period, loud, player, ready}
 
@@ -102,7 +102,7 @@ comes_again = refl
 
 -- a connection that hangs up loses its clients, their sessions and the frames that they released
 abbrev hung_up : State
-hung_up = hung_up_of (after ready (activates ∷ gets 1 7 ∷ releases 1 7 0 (loud 7) ∷ []))
+hung_up = after ready (activates ∷ gets 1 7 ∷ releases 1 7 0 (loud 7) ∷ hangs_up ∷ [])
 
 hung_up_is :
     hung_up
@@ -117,8 +117,8 @@ hung_up_is :
 hung_up_is = refl
 
 hung_up_replies :
-    replies hung_up (padding_of 1 ∷ opens ∷ padding_of 1 ∷ [])
-    ≡ (0x80070006, []) ∷ ok ∷ (0x80070006, []) ∷ []
+    replies hung_up (padding_of 1 ∷ hangs_up ∷ opens ∷ padding_of 1 ∷ hangs_up ∷ [])
+    ≡ (0x80070006, []) ∷ (0x80070006, []) ∷ ok ∷ (0x80070006, []) ∷ ok ∷ []
 hung_up_replies = refl
 
 -- streams are in the order of their clients, whichever is opened first; they share the session of their process

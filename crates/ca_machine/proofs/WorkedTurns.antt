@@ -14,8 +14,7 @@ use Rattle.ca_model.specs.declared.event.DeviceEvent.TheVariants as device
 use Rattle.ca_stage.specs.Stage.{Stream, no_data}
 use Rattle.ca_stage.specs.Tally.{no_tally}
 use Rattle.ca_machine.specs.State.{State, empty_state}
-use Rattle.ca_machine.specs.Clients.{hangup_plan}
-use Rattle.ca_machine.specs.Plan.{Answer, found, AreAnswers, Outcome, outcome_of}
+use Rattle.ca_machine.specs.Plan.{Answer, found, AreAnswers, Outcome}
 use Rattle.ca_machine.specs.Step.{Entry, IsRun, asks, step}
 
 -- ---- turns
@@ -102,9 +101,8 @@ speakers = (
 abbrev pub opens : Turn
 opens = (event.Open (record { 0 = 1 }) 10 name_of_player, [])
 
--- connection 1 hangs up
-abbrev pub hung_up_of : State → State
-hung_up_of st = (outcome_of st (hangup_plan st 1) []).after
+abbrev pub hangs_up : Turn
+hangs_up = (event.Hangup (record { 0 = 1 }), [])
 
 abbrev pub activates : Turn
 activates = says (call.Activate (record { 0 = 1 }) 0)

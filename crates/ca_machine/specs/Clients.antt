@@ -97,7 +97,7 @@ abbrev pub without_connection : ℕ → State → State
 without_connection conn st =
     record st { connections = filter (λ c. not (is_connection conn c)) st.connections }
 
--- a hang-up, which has no spelling yet
+-- a hang-up
 abbrev pub hangup_plan : State → ℕ → Plan
 hangup_plan st conn = plain ((not (is_connected conn st), hr.E_HANDLE) ∷ [])
     (leaving

@@ -3,7 +3,7 @@ use Rattle.std.specs.Prelude.{◌≡◌, ℕ, List, [], ◌∷◌, ◌++◌, tru
 use Rattle.std.specs.List.{flat_map}
 use Rattle.ca_base.specs.declared.codes.Hr.{Hr}
 use Rattle.ca_base.specs.declared.codes.TheConstants.Hr as hr
-use Rattle.ca_base.specs.declared.values.TheConstants.{KIND_OPEN, KIND_CALL, KIND_PERIOD, KIND_DEVICE}
+use Rattle.ca_base.specs.declared.values.TheConstants.{KIND_OPEN, KIND_HANGUP, KIND_CALL, KIND_PERIOD, KIND_DEVICE}
 use Rattle.ca_base.specs.Faults.{Rose}
 use Rattle.ca_model.specs.declared.event.Event.{Event}
 use Rattle.ca_model.specs.declared.event.Event.TheVariants as event
@@ -17,7 +17,7 @@ use Rattle.ca_machine.specs.State.{State}
 use Rattle.ca_machine.specs.Plan.{Outcome, Plan, Answer, Asked, AreAnswers, plain, refused, asked_of, outcome_of}
 use Rattle.ca_machine.specs.Plan.Answer.{failed}
 use Rattle.ca_machine.specs.SharedRows.{control_rows}
-use Rattle.ca_machine.specs.Clients.{open_plan, activate_plan, release_plan}
+use Rattle.ca_machine.specs.Clients.{open_plan, hangup_plan, activate_plan, release_plan}
 use Rattle.ca_machine.specs.Streams.{
   initialize_plan,
   get_buffer_size_plan,
@@ -75,6 +75,7 @@ device_plan st (device.Other code rest) = unlisted_device_plan st
 
 abbrev pub plan : State → Event → Plan
 plan st (event.Open c process name) = open_plan st c.0 process name
+plan st (event.Hangup c) = hangup_plan st c.0
 plan st (event.Call c tag x) = call_plan st c.0 x
 plan st (event.Period e) = period_plan st e.0
 plan st (event.Device x) = device_plan st x
@@ -123,12 +124,14 @@ moves_of entries = flat_map (λ entry. entry.moves) entries
 -- a reply's kind, connection and tag are the event's, or 0
 abbrev pub event_kind : Event → ℕ
 event_kind (event.Open c process name) = KIND_OPEN
+event_kind (event.Hangup c) = KIND_HANGUP
 event_kind (event.Call c tag x) = KIND_CALL
 event_kind (event.Period e) = KIND_PERIOD
 event_kind (event.Device x) = KIND_DEVICE
 
 abbrev pub event_connection : Event → ℕ
 event_connection (event.Open c process name) = c.0
+event_connection (event.Hangup c) = c.0
 event_connection (event.Call c tag x) = c.0
 event_connection (event.Period e) = 0
 event_connection (event.Device x) = 0
