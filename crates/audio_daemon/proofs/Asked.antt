@@ -37,3 +37,13 @@ module _ {D : Type 0} (faults : D → ℕ) (told : D → Option (List DeviceLog)
   asked seen event given view is got kind connection tag =
       subst (λ (e : Event). Answers faults told seen e reply new) (sym is)
       (subst (λ (o : Seen D). Answers faults told o event reply new) view (answered event got kind connection tag))
+
+-- the same of an event that changes nothing
+pub asked_still : {D : Type 0} (faults : D → ℕ) (told : D → Option (List DeviceLog)) (devices : D) (service : Service) (reply : Reply) (seen : Seen D) (event given : Event)
+    → seen_of devices service ≡ seen → given ≡ event
+    → Gets (state_of service) (plan (state_of service) event) reply.result reply.payload.list (state_of service) (faults devices) (told devices) (faults devices) (told devices)
+    → reply.kind ≡ event_kind event → reply.conn ≡ event_connection event → reply.tag ≡ event_tag event → Answers faults told seen given reply seen
+asked_still faults told devices service reply seen event given view is got kind connection tag =
+    let old = seen_of devices service in
+    subst (λ (s : Seen _). Answers faults told s given reply s) view
+    (asked faults told old old reply old event given refl is got kind connection tag)

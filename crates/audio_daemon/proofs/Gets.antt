@@ -6,6 +6,7 @@ use Rattle.ca_base.specs.declared.codes.TheConstants.Hr as hr
 use Rattle.device_io.specs.DeviceLog.{DeviceLog, add_all}
 use Rattle.ca_base.specs.Rows.{Row, first}
 use Rattle.first_machine.specs.State.{State}
+use Rattle.first_machine.specs.Tables.{connection_row, unlisted_call_plan}
 use Rattle.first_machine.specs.Plan.{Plan, Outcome, built, plain, with_memory}
 use Rattle.first_machine.specs.Plan.Answer.{found, short}
 use Rattle.audio_daemon.specs.Gets.{Has}
@@ -26,6 +27,16 @@ gets_refused st plan code result payload new row is empty same = λ faults told.
   tells = rw row (same_told told);
   counts = refl;
 }
+
+-- a call that comes with a later version, and a hang-up
+unlisted_row : (away : Bool) → (code : Hr) × (first ((away, hr.E_HANDLE) ∷ (true, hr.E_NOTIMPL) ∷ []) ≡ Some code) × (hr.E_NOTIMPL ≡ built code)
+unlisted_row true = (hr.E_HANDLE, refl, refl)
+unlisted_row false = (hr.E_NOTIMPL, refl, refl)
+
+pub gets_unlisted : (st : State) (conn : ℕ) (payload : List ℕ) → payload ≡ [] → Has st (unlisted_call_plan st conn) hr.E_NOTIMPL payload st
+gets_unlisted st conn payload empty =
+    let row = unlisted_row (connection_row conn st).0 in
+    gets_refused st (unlisted_call_plan st conn) row.0 hr.E_NOTIMPL payload st row.1 row.2 empty refl
 
 -- no row does, and the call asks nothing
 pub gets_plain : (st : State) (rows : List (Row Hr)) (outcome : Outcome) (result : Hr) (payload : List ℕ) (new : State) → first rows ≡ None → outcome.output ≡ []

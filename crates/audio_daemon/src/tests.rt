@@ -131,11 +131,19 @@ const GET_ALL: &[u8] = b"\x13\0\0\0\x03\x01\x03\0\0\0\x20\x01\0\0\0\0\0\0\0\xc0\
 
 const GET_MORE: &[u8] = b"\x13\0\0\0\x03\x01\x03\0\0\0\x20\x01\0\0\0\0\0\0\0\xc1\x03\0\0";
 
-/// A call of code 17, which isn't listed, tag 3.
-const UNLISTED: &[u8] = b"\x0a\0\0\0\x03\x01\x03\0\0\0\x11abc";
+/// A call of code 200, which isn't listed, tag 3.
+const UNLISTED: &[u8] = b"\x0a\0\0\0\x03\x01\x03\0\0\0\xc8abc";
+
+/// Stop of client 1, tag 3, and a hang-up of connection 1.
+const STOP: &[u8] = b"\x0f\0\0\0\x03\x01\x03\0\0\0\x18\x01\0\0\0\0\0\0\0";
+
+const HANG_UP: &[u8] = b"\x02\0\0\0\x02\x01";
 
 /// The head of a reply with tag 3 and no payload.
 const TAG_3: &[u8] = b"\x0a\0\0\0\x03\x01\x03\0\0\0";
+
+/// The head of a reply to a hang-up.
+const HUNG_UP: &[u8] = b"\x0a\0\0\0\x02\x01\0\0\0\0";
 
 const NOT_INITIALIZED: &[u8] = b"\x01\0\x89\x88";
 
@@ -150,7 +158,7 @@ const S_OK: &[u8] = b"\0\0\0\0";
 #[test]
 fn calls_are_refused_by_their_first_row(rt: HostRuntime) -> Result<(), Fail> {
     let alloc = rt.alloc();
-    let cases: [(&[&[u8]], &[&[u8]]); 4] = [
+    let cases: [(&[&[u8]], &[&[u8]]); 5] = [
         (&[OPEN, ADD, ACTIVATE, GET_ONE], &[TAG_3, NOT_INITIALIZED]),
         (
             &[ADD, OPEN, ACTIVATE, INITIALIZE, GET_MORE],
@@ -161,6 +169,10 @@ fn calls_are_refused_by_their_first_row(rt: HostRuntime) -> Result<(), Fail> {
             &[TAG_3, S_OK, TAG_3, E_NOTIMPL],
         ),
         (&[OPEN, UNLISTED], &[TAG_3, E_NOTIMPL]),
+        (
+            &[OPEN, STOP, HANG_UP],
+            &[TAG_3, E_NOTIMPL, HUNG_UP, E_NOTIMPL],
+        ),
     ];
     for (events, ending) in &cases {
         let got = replay(alloc, &joined(alloc, events)?, &[], &[], &[])?;

@@ -277,6 +277,7 @@ fair_device st (device.Other code rest) given h = fair_plan st (unlisted_device_
 
 pub fair : (st : State) (e : Event) (given : List Answer) → Holds st → IsFair st (step st e given)
 fair st (event.Open c process name) given h = fair_open st c.0 process name given h
+fair st (event.Hangup c) given h = fair_unlisted_call st c.0 given h
 fair st (event.Call c tag x) given h = fair_call st c.0 x given h
 fair st (event.Period e) given h = fair_period_of st e.0 (endpoint_at e.0 st.stage) given h refl
 fair st (event.Device x) given h = fair_device st x given h

@@ -229,6 +229,8 @@ tells_device st e (device.Other code rest) given h = tells_plan st e (unlisted_d
 
 tells : (st : State) (e : Event) (given : List Answer) → Answers (asks st e) given → Tells st e (step st e given)
 tells st (event.Open c process name) given a = tells_plan st (event.Open c process name) (open_plan st c.0 process name) given (λ n. tells_granted st _ (event.Open c process name) [] [] [] (λ n channels. refl) tt refl)
+tells st (event.Hangup c) given a =
+    tells_plan st (event.Hangup c) (unlisted_call_plan st c.0) given (λ n. tells_refused st (event.Hangup c) hr.E_NOTIMPL refl)
 tells st (event.Call c tag x) given a = tells_call st (event.Call c tag x) c.0 x given (λ n channels. refl)
 tells st (event.Period d) given a = tells_period_of st (event.Period d) d.0 (endpoint_at d.0 st.stage) given (λ n channels. refl) refl a
 tells st (event.Device x) given a = tells_device st (event.Device x) x given (λ n channels. refl)

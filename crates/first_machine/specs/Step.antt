@@ -32,6 +32,8 @@ device_plan st (device.Other code rest) = unlisted_device_plan st
 
 abbrev pub plan : State → Event → Plan
 plan st (event.Open c process name) = open_plan st c.0 process name
+-- a hang-up comes with a later version
+plan st (event.Hangup c) = unlisted_call_plan st c.0
 plan st (event.Call c tag x) = call_plan st c.0 x
 plan st (event.Period e) = period_plan st e.0
 plan st (event.Device x) = device_plan st x
@@ -80,18 +82,21 @@ moves_of entries = flat_map (λ entry. entry.moves) entries
 -- a reply's kind, connection and tag are the event's, or 0
 abbrev pub event_kind : Event → ℕ
 event_kind (event.Open c process name) = 1
+event_kind (event.Hangup c) = 2
 event_kind (event.Call c tag x) = 3
 event_kind (event.Period e) = 4
 event_kind (event.Device x) = 5
 
 abbrev pub event_connection : Event → ℕ
 event_connection (event.Open c process name) = c.0
+event_connection (event.Hangup c) = c.0
 event_connection (event.Call c tag x) = c.0
 event_connection (event.Period e) = 0
 event_connection (event.Device x) = 0
 
 abbrev pub event_tag : Event → ℕ
 event_tag (event.Open c process name) = 0
+event_tag (event.Hangup c) = 0
 event_tag (event.Call c tag x) = tag
 event_tag (event.Period e) = 0
 event_tag (event.Device x) = 0

@@ -125,6 +125,12 @@ impl<D: Devices> Desk for Machine<D> {
                 out.conn = conn.0;
                 out.result = self.service.answer_open(*conn, *pid, name);
             }
+            // A hang-up comes with a later version.
+            Event::Hangup { conn } => {
+                out.kind = 2;
+                out.conn = conn.0;
+                out.result = Hr::E_NOTIMPL;
+            }
             Event::Call { conn, tag, call } => {
                 out.kind = 3;
                 out.conn = conn.0;
