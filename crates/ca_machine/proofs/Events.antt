@@ -95,7 +95,7 @@ there_by conn client st None e h = absurd (true≢false h)
 there_by conn client st (Some c) e h = record { found = c; there = e }
 
 -- what is asked if no row refuses
-asked_where : (p : Plan) (given : List Answer) → first p.rows ≡ None → AreAnswers (asked_of p) given →
+pub asked_where : (p : Plan) (given : List Answer) → first p.rows ≡ None → AreAnswers (asked_of p) given →
     AreAnswers p.asks given
 asked_where p given n a = subst (λ o. AreAnswers (unless_row o p.asks) given) n a
 

@@ -8,6 +8,7 @@ pub mod SoundsTaken
 pub mod FramesHanded
 pub mod Outcomes
 pub mod Events
+pub mod Complete
 pub mod Runs
 pub mod RunsHaveHeadline
 pub mod WorkedTurns

@@ -9,3 +9,4 @@ pub mod Periods
 pub mod Step
 pub mod View
 pub mod Headline
+pub mod Complete

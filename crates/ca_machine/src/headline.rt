@@ -1,7 +1,15 @@
-//! The headline of the machine: what holds of each of its runs, as contracts of empty functions.
+//! The headline of the machine: what holds of each of its events and runs, as contracts of empty functions.
+ghost use Rattle.ca_machine.specs.Complete.{UnrefusedIsGranted};
 ghost use Rattle.ca_machine.specs.Headline.{RunsGoOn, RunsHaveHeadline};
 
 use ca_stage::laws;
+
+/// An event for which no row of its table holds is answered S_OK or S_FALSE, and E_OUTOFMEMORY exactly if it asked for
+/// memory and there was none.
+#[tactic(auto, using(crate::proofs::Complete::unrefused_is_granted))]
+pub fn unrefused_is_granted()
+    ensures { UnrefusedIsGranted }
+{}
 
 /// A run and a run from its last state are one run.
 #[tactic(auto, using(crate::proofs::Runs::runs_go_on))]
