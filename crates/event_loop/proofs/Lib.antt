@@ -1,3 +1,4 @@
 pub mod Windows
 pub mod Turns
 pub mod Finishes
+pub mod Complete

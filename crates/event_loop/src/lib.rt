@@ -6,11 +6,13 @@
 mod ends;
 mod events;
 mod front;
+mod laws;
 mod pending;
 mod replies;
 
 pub use ends::{LoopEnd, Stop};
 pub use events::answer_events;
+pub use laws::whole_input_completes;
 
 #[cfg(test)]
 mod tests;
