@@ -12,3 +12,4 @@ pub mod Granted
 pub mod Asked
 pub mod Replays
 pub mod RunStatus
+pub mod Complete

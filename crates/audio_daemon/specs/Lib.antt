@@ -9,4 +9,5 @@ pub mod Sounding
 pub mod Machine
 pub mod Gets
 pub mod Run
+pub mod Complete
 pub mod StatusLine

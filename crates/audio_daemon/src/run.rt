@@ -2,7 +2,9 @@
 
 ghost use Rattle.std.specs.Prelude.{◌≡◌};
 ghost use Rattle.event_loop.specs.Ends.{RoseIf, moment};
+ghost use Rattle.event_loop.specs.Complete.{DidNotRise};
 ghost use Rattle.audio_daemon.specs.Run.{RunEnds, is_folder, is_replay, read_failed, status_of, write_failed};
+ghost use Rattle.audio_daemon.specs.Complete.{Completes};
 
 use crate::machine::{Machine, REPLY_ROOM};
 use ca_base::{Sink, Source, Words};
@@ -82,6 +84,10 @@ pub fn run<S: Source, K: Sink, D: Devices>(
         (moment (S.left input.new) (K.written output.new) result.1) result.0 }
     ensures source { RoseIf (read_failed result.0) (S.faults input.old) (S.faults input.new) }
     ensures sink { RoseIf (write_failed result.0) (K.faults output.old) (K.faults output.new) }
+    ensures completes { DidNotRise (S.faults input.old) (S.faults input.new)
+        → DidNotRise (K.faults output.old) (K.faults output.new)
+        → Completes D.faults D.told words.now (moment (S.left input.old) (K.written output.old) devices)
+        (moment (S.left input.new) (K.written output.new) result.1) result.0 }
 {
     headline();
     if !are_replay(words) {
