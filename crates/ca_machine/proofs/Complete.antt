@@ -212,6 +212,7 @@ device_complete st (device.Other code rest) =
 
 pub unrefused_is_granted : UnrefusedIsGranted
 unrefused_is_granted st (event.Open c process name) = plain_complete st (open_plan st c.0 process name) (λ n. inl refl)
+unrefused_is_granted st (event.Hangup c) = hangup_complete st c.0
 unrefused_is_granted st (event.Call c tag x) = call_complete st c.0 x
 unrefused_is_granted st (event.Period e) = period_complete st (endpoint_at e.0 st)
 unrefused_is_granted st (event.Device x) = device_complete st x
