@@ -99,6 +99,8 @@ fn expect(
 
 #[test]
 fn ends_as_its_input_says(rt: HostRuntime) -> Result<(), Fail> {
+    // what the rows of whole events end with is a law over any desk
+    whole_input_completes::<Toy>();
     let alloc = rt.alloc();
     let cut = LoopEnd::Malformed { place: 18 };
     let rows: [(usize, &[u8], LoopEnd); 4] = [
