@@ -124,3 +124,40 @@ extension_of-extension_bytes f e v m = λ i. record {
 pub mask_fits : (b : Bool) (bytes : List ℕ) → AreBytes bytes → cond b (extension_of bytes).mask 0 < 2 ^ 32
 mask_fits true bytes h = omega (arith, h 20, h 21, h 22, h 23)
 mask_fits false bytes h = omega arith
+
+-- ---- of numbers that their fields can't hold
+
+low_pair : (n : ℕ) → to_le_bytes w16 (n % 65536) ≡ to_le_bytes w16 n
+low_pair n =
+    let a : n % 65536 % 256 ≡ n % 256 = omega arith in
+    let b : n % 65536 / 256 % 256 ≡ n / 256 % 256 = omega arith in
+    cc
+
+low_four : (n : ℕ) → to_le_bytes w32 (n % 4294967296) ≡ to_le_bytes w32 n
+low_four n =
+    let a : n % 4294967296 % 256 ≡ n % 256 = omega arith in
+    let b : n % 4294967296 / 256 % 256 ≡ n / 256 % 256 = omega arith in
+    let c : n % 4294967296 / 65536 % 256 ≡ n / 65536 % 256 = omega arith in
+    let d : n % 4294967296 / 16777216 % 256 ≡ n / 16777216 % 256 = omega arith in
+    cc
+
+-- bytes are those of a number's low part
+pub field_bytes-low : (tag channels rate average block_align bits extra : ℕ)
+    → field_bytes (record {
+      tag = tag;
+      channels = channels;
+      rate = rate;
+      average = average % 4294967296;
+      block_align = block_align % 65536;
+      bits = bits;
+      extra = extra;
+    }) ≡ field_bytes (record {
+      tag = tag;
+      channels = channels;
+      rate = rate;
+      average = average;
+      block_align = block_align;
+      bits = bits;
+      extra = extra;
+    })
+field_bytes-low tag channels rate average block_align bits extra = cc (low_four average, low_pair block_align)

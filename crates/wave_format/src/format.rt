@@ -2,8 +2,8 @@
 
 ghost use Rattle.std.specs.Prelude.{◌≡◌, ◌+◌, ◌≤◌, true, ◌++◌, length, IsOk, OnOk, OnErr};
 ghost use Rattle.ca_base.specs.Rows.{first};
-ghost use Rattle.wave_format.specs.Fields.{extension_of};
-ghost use Rattle.wave_format.specs.Format.{IsValid, extensible_spelling, fault_rows, format_at, format_fields};
+ghost use Rattle.wave_format.specs.Fields.{extension_of, field_bytes};
+ghost use Rattle.wave_format.specs.Format.{extensible_spelling, fault_rows, format_at, format_fields};
 ghost use Rattle.wave_format.specs.Format.{frames_of_time, has_sample_bits, has_sub_format, is_extensible};
 ghost use Rattle.wave_format.specs.Format.{plain_spelling, spelling, tag_of};
 
@@ -116,18 +116,17 @@ pub fn format_tag(bytes: &[u8]) -> Option<u16>
     Some(short_at(bytes, TAG_AT))
 }
 
-/// The fields of a format with this tag and this `cbSize`.
+/// The fields of a format with this tag and this `cbSize`. Of a size that its field can't hold the low bytes are there.
 fn fields_of_format(format: &Format, tag: u16, extra: u16) -> Fields
-    requires { IsValid format.now }
-    ensures { result ≡ format_fields tag extra format.now }
+    ensures { field_bytes result ≡ field_bytes (format_fields tag extra format.now) }
 {
-    let block_align = format.channels * SAMPLE_SIZE;
+    let frame_size = format.channels as u32 * SAMPLE_SIZE as u32;
     Fields {
         tag,
         channels: format.channels,
         rate: format.rate,
-        average: format.rate * block_align as u32,
-        block_align,
+        average: format.rate.wrapping_mul(frame_size),
+        block_align: format.channels.wrapping_mul(SAMPLE_SIZE),
         bits: SAMPLE_BITS,
         extra,
     }
@@ -135,7 +134,6 @@ fn fields_of_format(format: &Format, tag: u16, extra: u16) -> Fields
 
 /// The bytes of a format that isn't extensible.
 fn plain_bytes(format: &Format) -> [u8; PLAIN_LENGTH]
-    requires { IsValid format.now }
     ensures { result ≡ plain_spelling 0 format.now }
 {
     fields_of_format(format, PLAIN_TAG, 0).to_bytes()
@@ -143,7 +141,6 @@ fn plain_bytes(format: &Format) -> [u8; PLAIN_LENGTH]
 
 /// The bytes of a format that is.
 fn extensible_bytes(format: &Format) -> [u8; EXTENSIBLE_LENGTH]
-    requires { IsValid format.now }
     ensures { result ≡ extensible_spelling format.now }
 {
     let mut bytes = [0; EXTENSIBLE_LENGTH];
@@ -155,10 +152,20 @@ fn extensible_bytes(format: &Format) -> [u8; EXTENSIBLE_LENGTH]
     bytes
 }
 
+/// How many bytes a format has: 18, or 40 if it is extensible.
+pub fn format_length(f: &Format) -> u16
+    ensures length { result ≡ length (spelling f.now) }
+    ensures most { result ≤ EXTENSIBLE_LENGTH }
+{
+    if f.extensible {
+        return EXTENSIBLE_LENGTH as u16;
+    }
+    PLAIN_LENGTH as u16
+}
+
 /// Adds the bytes of a format. It asks for memory only if they exceed the capacity, and `NoMemory` leaves the bytes as
 /// they were.
 pub fn write_format(f: &Format, out: &mut Bytes) -> Result<(), NoMemory>
-    requires { IsValid f.now }
     ensures ok { OnOk result (out.new.list ≡ out.old.list ++ spelling f.now) }
     ensures keeps { out.old.capacity ≤ out.new.capacity }
     ensures fits { length out.old.list + length (spelling f.now) ≤ out.old.capacity → IsOk result }

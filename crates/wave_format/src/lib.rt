@@ -9,7 +9,9 @@ pub mod layout;
 #[cfg(test)]
 mod tests;
 
-pub use format::{Format, FormatFault, format_tag, frames_of, read_format, write_format};
+pub use format::{
+    Format, FormatFault, format_length, format_tag, frames_of, read_format, write_format,
+};
 pub use frame::{bytes_of_word, pack, unpack, word_from_bytes};
 pub use laws::{
     bytes_of_frames_are_read, frames_of_bytes_are_written, read_format_is_written,
