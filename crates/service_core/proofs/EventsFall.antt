@@ -1,0 +1,215 @@
+-- Each event but a data call leaves streams as they were opened, with no more frames pending.
+use Rattle.std.proofs.Common.{ℕ, ◌+◌, ◌||◌, not, List, [], ◌∷◌, ◌++◌, filter, Bool, true, false, Option, Some, None}
+use Rattle.std.proofs.Common.{if◌then◌else◌}
+use Rattle.std.specs.List.{AllByRecursion}
+use Rattle.std.specs.Int.{w32, w64, to_le_bytes}
+use Rattle.ca_base.specs.declared.codes.Hr.{Hr}
+use Rattle.ca_base.specs.declared.codes.TheConstants.Hr as hr
+use Rattle.ca_base.specs.Rows.{Row, first}
+use Rattle.ca_model.specs.declared.event.Event.{Event}
+use Rattle.ca_model.specs.declared.event.Event.TheVariants as event
+use Rattle.ca_model.specs.declared.event.Call.{Call}
+use Rattle.ca_model.specs.declared.event.Call.TheVariants as call
+use Rattle.ca_model.specs.declared.event.DeviceEvent.{DeviceEvent}
+use Rattle.ca_model.specs.declared.event.DeviceEvent.TheVariants as device
+use Rattle.wave_format.specs.Format.{spelled}
+use Rattle.ca_stage.specs.Stage.{Stream, padding}
+use Rattle.ca_stage.specs.Moves.{StreamMove, started, stopped, reset, added, opened, of_client, Mixing, after_moves}
+use Rattle.ca_stage.specs.Moves.{sub_steps, stream_at}
+use Rattle.ca_machine.specs.declared.state.Client.{Client}
+use Rattle.ca_machine.specs.declared.state.Endpoint.{Endpoint}
+use Rattle.ca_machine.specs.declared.state.Session.{Session}
+use Rattle.ca_machine.specs.State.{State, live_clients, client_of, endpoint_at, is_client_of}
+use Rattle.ca_machine.specs.Plan.{
+  Outcome,
+  Plan,
+  Answer,
+  outcome_of,
+  answered,
+  granted,
+  unless_refused,
+  if_found,
+  plain,
+  with_memory,
+  moved,
+  is_whole,
+}
+use Rattle.ca_machine.specs.Plan.Answer.{out_of_memory}
+use Rattle.ca_machine.specs.SharedRows.{endpoint_of, with_stream, with_endpoint}
+use Rattle.ca_machine.specs.Clients.{closes, leaving, hangup_plan, is_client_on, without_connection}
+use Rattle.ca_machine.specs.Streams.{
+  Opening,
+  initialized,
+  joined,
+  new_stream,
+  session_found,
+  supported,
+  is_faulty,
+  matches,
+  format_payload,
+}
+use Rattle.ca_machine.specs.Periods.{after_period, mixing_of, period_of, period_rows, sounding}
+use Rattle.ca_machine.specs.Step.{call_plan, device_plan, plan}
+use Rattle.ca_machine.proofs.PeriodMoves.{OfSubSteps, sub_steps_all}
+use Rattle.service_core.proofs.StreamsFall.{IsStreamControl, IsControl, AllFell, all_still, all_moved, all_present}
+
+-- an outcome does so, and a plan, whatever it is answered
+abbrev pub Leaves : State → Outcome → Type 0
+Leaves st o = AllFell st.stage o.after.stage
+
+pub record Keeps (st : State) (p : Plan) : Type 0 where
+  pub leaves : (given : List Answer) → Leaves st (outcome_of st p given)
+
+leaves_unless : (st : State) (verdict : Option Hr) (o : Outcome) → Leaves st o →
+    Leaves st (unless_refused st verdict o)
+leaves_unless st None o h = h
+leaves_unless st (Some code) o h = all_still st.stage
+
+keeps_plain : (st : State) (rows : List (Row Hr)) (o : Outcome) → Leaves st o → Keeps st (plain rows o)
+keeps_plain st rows o h = record { leaves = λ given. leaves_unless st (first rows) o h }
+
+if_memory : (st : State) (o : Outcome) (given : List Answer) → Leaves st o → Leaves st (if_found st o given)
+if_memory st o (out_of_memory ∷ given) h = all_still st.stage
+if_memory st o _ h = h
+
+keeps_memory : (st : State) (rows : List (Row Hr)) (o : Outcome) → Leaves st o → Keeps st (with_memory st rows o)
+keeps_memory st rows o h =
+    record { leaves = λ given. leaves_unless st (first rows) (if_found st o given) (if_memory st o given h) }
+
+of_stream : (st : State) (s : Option Stream) (f : Stream → Outcome) → ((s : Stream) → Leaves st (f s)) →
+    Leaves st (with_stream st s f)
+of_stream st None f h = all_still st.stage
+of_stream st (Some s) f h = h s
+
+of_endpoint : (st : State) (e : Option Endpoint) (f : Endpoint → Outcome) → ((e : Endpoint) → Leaves st (f e)) →
+    Leaves st (with_endpoint st e f)
+of_endpoint st None f h = all_still st.stage
+of_endpoint st (Some e) f h = h e
+
+-- a call of a stream that changes nothing, and one that moves it
+keeps_tells : (st : State) (rows : List (Row Hr)) (s : Option Stream) (payload : Stream → List ℕ) →
+    Keeps st (plain rows (with_stream st s (λ s. answered st (payload s))))
+keeps_tells st rows s payload =
+    keeps_plain st rows (with_stream st s (λ s. answered st (payload s)))
+    (of_stream st s (λ s. answered st (payload s)) (λ s. all_still st.stage))
+
+keeps_moves : (st : State) (rows : List (Row Hr)) (s : Option Stream) (client : ℕ) (m : StreamMove) →
+    IsStreamControl m → Keeps st (plain rows (with_stream st s (λ s. granted [] (of_client client m ∷ []) st)))
+keeps_moves st rows s client m control =
+    keeps_plain st rows (with_stream st s (λ s. granted [] (of_client client m ∷ []) st))
+    (of_stream st s (λ s. granted [] (of_client client m ∷ []) st)
+    (λ s. all_moved st.stage (of_client client m ∷ []) (control, tt)))
+
+-- clients that go
+closes_control : (clients : List Client) → AllByRecursion IsControl (closes clients)
+closes_control [] = tt
+closes_control (c ∷ clients) = (tt, closes_control clients)
+
+of_leaving : (st : State) (gone left : List Client) → Leaves st (leaving gone left st)
+of_leaving st gone left =
+    all_present st.stage (after_moves st.stage (closes gone)) (live_clients left)
+    (all_moved st.stage (closes gone) (closes_control gone))
+
+-- a stream that is opened
+of_session : (st : State) (conn : ℕ) (client : Client) (x : Opening) (found : Option Session) →
+    Leaves st (joined st conn client x found)
+of_session st conn client x None =
+    all_moved st.stage (opened (new_stream client x (st.sessions_made + 1)) ∷ []) (tt, tt)
+of_session st conn client x (Some session) =
+    all_moved st.stage (opened (new_stream client x session.session.0) ∷ []) (tt, tt)
+
+of_opening : (st : State) (conn : ℕ) (client : Option Client) (x : Opening) → Leaves st (initialized st conn client x)
+of_opening st conn None x = all_still st.stage
+of_opening st conn (Some client) x = of_session st conn client x (session_found st conn (Some client) x)
+
+-- a period
+of_failed : (number : ℕ) (whole : Bool) (st after : State) → AllFell st.stage after.stage →
+    AllFell st.stage (after_period number whole after).stage
+of_failed number true st after h = h
+of_failed number false st after h = h
+
+period_control : OfSubSteps IsControl
+period_control = record { picks = λ n k. tt; retires = λ n. tt; closes = λ n. tt; finish = λ m b. tt }
+
+of_sound : (st : State) (m : Mixing) (given : List Answer) → Leaves st (sounding st m given)
+of_sound st m given =
+    of_failed m.endpoint (is_whole given) st (moved (sub_steps m (is_whole given) st.stage) st)
+    (all_moved st.stage (sub_steps m (is_whole given) st.stage)
+    (sub_steps_all IsControl period_control m (is_whole given) tt st.stage))
+
+of_period : (st : State) (e : Option Endpoint) → Keeps st (period_of st e)
+of_period st None = record { leaves = λ given. all_still st.stage }
+of_period st (Some e) = record {
+  leaves = λ given. leaves_unless st (first (period_rows st e)) (sounding st (mixing_of st e) given)
+      (of_sound st (mixing_of st e) given);
+}
+
+supported_either : (st : State) (payload : List ℕ) (b : Bool) → Leaves st
+    (if b then record (answered st payload) { result = hr.S_FALSE } else answered st [])
+supported_either st payload true = all_still st.stage
+supported_either st payload false = all_still st.stage
+
+-- a call, and an event, that isn't GetBuffer or ReleaseBuffer
+abbrev pub IsControlCall : Call → Type 0
+IsControlCall (call.GetBuffer c frames) = ⊥
+IsControlCall (call.ReleaseBuffer c frames flags bytes) = ⊥
+IsControlCall _ = Unit {0}
+
+abbrev pub IsControlEvent : Event → Type 0
+IsControlEvent (event.Call c tag x) = IsControlCall x
+IsControlEvent _ = Unit {0}
+
+of_call : (st : State) (conn : ℕ) (x : Call) → IsControlCall x → Keeps st (call_plan st conn x)
+of_call st conn (call.Activate e role) control = keeps_plain st _ _ (all_still st.stage)
+of_call st conn (call.Release c) control = keeps_plain st _ _ (of_leaving st
+    (filter (is_client_of conn c.0) st.clients) (filter (λ k. not (is_client_of conn c.0 k)) st.clients))
+of_call st conn (call.Initialize c share flags duration period format session) control =
+    keeps_memory st _ _ (of_opening st conn (client_of conn c.0 st) (record {
+      share = share;
+      flags = flags;
+      duration = duration;
+      period = period;
+      format = format.list;
+      session = session.0;
+    }))
+of_call st conn (call.GetBufferSize c) control = keeps_tells st _ (stream_at c.0 st.stage)
+    (λ s. to_le_bytes w32 s.buffer)
+of_call st conn (call.GetStreamLatency c) control = keeps_tells st _ (stream_at c.0 st.stage)
+    (λ s. to_le_bytes w64 s.latency)
+of_call st conn (call.GetCurrentPadding c) control = keeps_tells st _ (stream_at c.0 st.stage)
+    (λ s. to_le_bytes w32 (padding s))
+of_call st conn (call.IsFormatSupported c share format) control =
+    keeps_plain st _ (with_endpoint st (endpoint_of st (client_of conn c.0 st)) (supported st format.list))
+    (of_endpoint st (endpoint_of st (client_of conn c.0 st)) (supported st format.list)
+    (λ e. supported_either st (format_payload e.format)
+    (is_faulty format.list || not (matches e.format (spelled format.list)))))
+of_call st conn (call.GetMixFormat c) control =
+    keeps_plain st _
+    (with_endpoint st (endpoint_of st (client_of conn c.0 st)) (λ e. answered st (format_payload e.format)))
+    (of_endpoint st (endpoint_of st (client_of conn c.0 st)) (λ e. answered st (format_payload e.format))
+    (λ e. all_still st.stage))
+of_call st conn (call.GetDevicePeriod c) control = keeps_plain st _ _ (all_still st.stage)
+of_call st conn (call.Start c) control = keeps_moves st _ (stream_at c.0 st.stage) c.0 started tt
+of_call st conn (call.Stop c) control = keeps_moves st _ (stream_at c.0 st.stage) c.0 stopped tt
+of_call st conn (call.Reset c) control = keeps_moves st _ (stream_at c.0 st.stage) c.0 reset tt
+of_call st conn (call.GetService c service) control = keeps_tells st _ (stream_at c.0 st.stage) (λ s. [])
+of_call st conn (call.GetPosition c) control = keeps_tells st _ (stream_at c.0 st.stage)
+    (λ s. to_le_bytes w64 s.position ++ to_le_bytes w64 s.rate)
+of_call st conn (call.GetBuffer c frames) control = absurd control
+of_call st conn (call.ReleaseBuffer c frames flags bytes) control = absurd control
+of_call st conn (call.Other code rest) control = keeps_plain st _ _ (all_still st.stage)
+
+of_device : (st : State) (x : DeviceEvent) → Keeps st (device_plan st x)
+of_device st (device.Add e flow format name) = keeps_memory st _ _ (all_moved st.stage (added e.0 ∷ []) (tt, tt))
+of_device st (device.Other code rest) = keeps_plain st _ _ (all_still st.stage)
+
+keeps_hangup : (st : State) (conn : ℕ) → Keeps st (hangup_plan st conn)
+keeps_hangup st conn = keeps_plain st _ _ (of_leaving (without_connection conn st)
+    (filter (is_client_on conn) st.clients) (filter (λ c. not (is_client_on conn c)) st.clients))
+
+pub keeps_event : (st : State) (e : Event) → IsControlEvent e → Keeps st (plan st e)
+keeps_event st (event.Open c process name) control = keeps_plain st _ _ (all_still st.stage)
+keeps_event st (event.Hangup c) control = keeps_hangup st c.0
+keeps_event st (event.Call c tag x) control = of_call st c.0 x control
+keeps_event st (event.Period e) control = of_period st (endpoint_at e.0 st)
+keeps_event st (event.Device x) control = of_device st x

@@ -1,0 +1,12 @@
+use Rattle.std.proofs.Common.{◌*◌, ◌≤◌}
+use Rattle.period_engine.proofs.Passes.{Passed}
+use Rattle.service_core.specs.Totals.{words_in}
+use Rattle.service_core.proofs.PendingWords.{Adds}
+use Rattle.service_core.proofs.totals.words_of_all.Given as goal
+
+-- the entries so far were added
+abbrev pub invariant-loop-entry : goal.invariant-loop-entry
+invariant-loop-entry g l = record {
+  adds : Passed (Adds g.F.FrameStore.kept (words_in g.F.FrameStore.kept)) l.initial.all l.all l.entry-index 0 l.sum;
+  fits : l.sum ≤ 4294967296 * l.entry-index;
+}

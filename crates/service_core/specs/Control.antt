@@ -1,0 +1,42 @@
+-- Groups of events, by what else they touch than the board, and what the others count (this project's own).
+use Rattle.std.specs.Prelude.{ℕ, ◌≤◌, Bool, false, Result, Ok, Err, if◌then◌else◌}
+use Rattle.ca_base.specs.declared.codes.Hr.{Hr}
+use Rattle.ca_base.specs.declared.limits.TheConstants.{MAX_TALLY}
+use Rattle.ca_model.specs.declared.event.Call.{Call}
+use Rattle.ca_model.specs.declared.event.Call.TheVariants as call
+use Rattle.ca_stage.specs.Tally.{Tally, counted}
+use Rattle.service_core.specs.declared.payload.Payload.{Payload}
+use Rattle.service_core.specs.declared.payload.Payload.TheVariants as payload
+
+-- a call that asks for no memory, needs nothing of the client's side, and gives no frame a fate
+abbrev pub IsPlainCall : Call → Type 0
+IsPlainCall (call.Release c) = ⊥
+IsPlainCall (call.Initialize c share flags duration period format session) = ⊥
+IsPlainCall (call.GetCurrentPadding c) = ⊥
+IsPlainCall (call.Reset c) = ⊥
+IsPlainCall (call.GetBuffer c frames) = ⊥
+IsPlainCall (call.ReleaseBuffer c frames flags bytes) = ⊥
+IsPlainCall _ = Unit {0}
+
+-- counts that are in range
+pub record HasCounts (t : Tally) : Type 0 where
+  pub rendered : t.rendered ≤ MAX_TALLY
+  pub reset : t.reset ≤ MAX_TALLY
+  pub dropped : t.dropped ≤ MAX_TALLY
+
+-- a tally after frames were reset, and after frames were dropped
+abbrev pub more_reset : ℕ → Tally → Tally
+more_reset n t = record t { reset = counted t.reset n }
+
+abbrev pub more_dropped : ℕ → Tally → Tally
+more_dropped n t = record t { dropped = counted t.dropped n }
+
+-- an answer that says that a device failed
+abbrev pub is_failure : Payload → Bool
+is_failure (payload.Period frames failed) = failed
+is_failure _ = false
+
+-- a tally after a period that took so many frames: they were dropped if the device failed, or else rendered
+abbrev pub after_taking : Result Payload Hr → ℕ → Tally → Tally
+after_taking (Ok p) n t = if is_failure p then more_dropped n t else record t { rendered = counted t.rendered n }
+after_taking (Err code) n t = t

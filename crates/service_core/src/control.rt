@@ -1,0 +1,176 @@
+//! Events on a service.
+
+ghost use Rattle.ca_machine.specs.Clients.{hangup_plan, open_plan, release_plan};
+ghost use Rattle.ca_machine.specs.Data.{get_buffer_plan, get_current_padding_plan, release_buffer_plan};
+ghost use Rattle.ca_machine.specs.Periods.{period_plan};
+ghost use Rattle.ca_machine.specs.Step.{call_plan, device_plan};
+ghost use Rattle.ca_machine.specs.Streams.{reset_plan};
+ghost use Rattle.service_core.specs.Answers.{code_of, payload_of};
+ghost use Rattle.service_core.specs.Control.{IsPlainCall};
+ghost use Rattle.service_core.specs.Openings.{opening_plan};
+ghost use Rattle.service_core.specs.Service.{AnswersPlan};
+
+use crate::new_ends::new_ends;
+use crate::{Core, Opening, Payload};
+use buffer_ring::FrameStore;
+use ca_base::{ClientNo, ConnNo, EndpointNo, Hr, Text};
+use ca_model::{Call, DeviceEvent};
+use device_io::Devices;
+
+impl<D: Devices, F: FrameStore> Core<D, F> {
+    /// A connection opens.
+    pub fn open(&mut self, conn: ConnNo, process: u32, name: &Text) -> Result<Payload, Hr>
+        ensures { AnswersPlan D.faults D.told (λ st. open_plan st conn.0 process name.now)
+            (code_of result) (payload_of result) self.old self.new }
+    {
+        self.board.open(conn, process, name)
+    }
+
+    /// A connection hangs up: its clients are released.
+    pub fn hangup(&mut self, conn: ConnNo) -> Result<Payload, Hr>
+        ensures { AnswersPlan D.faults D.told (λ st. hangup_plan st conn.0)
+            (code_of result) (payload_of result) self.old self.new }
+    {
+        let (answer, dropped) = self.board.counted_hangup(conn);
+        self.tally.add_dropped(dropped);
+        answer
+    }
+
+    /// A client is released.
+    fn release(&mut self, conn: ConnNo, client: ClientNo) -> Result<Payload, Hr>
+        ensures { AnswersPlan D.faults D.told (λ st. release_plan st conn.0 client.0)
+            (code_of result) (payload_of result) self.old self.new }
+    {
+        let (answer, dropped) = self.board.counted_release(conn, client);
+        self.tally.add_dropped(dropped);
+        answer
+    }
+
+    /// IAudioClient::Reset.
+    fn reset(&mut self, conn: ConnNo, client: ClientNo) -> Result<Payload, Hr>
+        ensures { AnswersPlan D.faults D.told (λ st. reset_plan st conn.0 client.0)
+            (code_of result) (payload_of result) self.old self.new }
+    {
+        let (answer, reset) = self.board.counted_reset(conn, client);
+        self.tally.add_reset(reset);
+        answer
+    }
+
+    /// IAudioClient::Initialize. The store of the stream is made last, so that no refusal takes memory.
+    fn initialize(&mut self, x: &Opening) -> Result<Payload, Hr>
+        ensures { AnswersPlan D.faults D.told (opening_plan x.now) (code_of result) (payload_of result)
+            self.old self.new }
+    {
+        let plan = self.board.plan_initialize(x)?;
+        let ends = new_ends(self.alloc, &plan);
+        self.board.initialize(x, &plan, ends)
+    }
+
+    /// IAudioClient::GetCurrentPadding.
+    fn get_current_padding(&mut self, conn: ConnNo, client: ClientNo) -> Result<Payload, Hr>
+        ensures { AnswersPlan D.faults D.told (λ st. get_current_padding_plan st conn.0 client.0)
+            (code_of result) (payload_of result) self.old self.new }
+    {
+        self.board.get_current_padding(conn, client)
+    }
+
+    /// IAudioRenderClient::GetBuffer.
+    fn get_buffer(&mut self, conn: ConnNo, client: ClientNo, frames: u32) -> Result<Payload, Hr>
+        ensures { AnswersPlan D.faults D.told (λ st. get_buffer_plan st conn.0 client.0 frames)
+            (code_of result) (payload_of result) self.old self.new }
+    {
+        self.board.get_buffer(conn, client, frames)
+    }
+
+    /// IAudioRenderClient::ReleaseBuffer.
+    fn release_buffer(
+        &mut self,
+        conn: ConnNo,
+        client: ClientNo,
+        frames: u32,
+        flags: u32,
+        bytes: &[u8],
+    ) -> Result<Payload, Hr>
+        ensures { AnswersPlan D.faults D.told
+            (λ st. release_buffer_plan st conn.0 client.0 frames flags bytes.now)
+            (code_of result) (payload_of result) self.old self.new }
+    {
+        self.board
+            .release_buffer(conn, client, frames, flags, bytes)
+    }
+
+    /// A call that asks for no memory, needs nothing of the client's side, and gives no frame a fate.
+    fn plain_call(&mut self, conn: ConnNo, call: &Call) -> Result<Payload, Hr>
+        requires { IsPlainCall call.now }
+        ensures { AnswersPlan D.faults D.told (λ st. call_plan st conn.0 call.now)
+            (code_of result) (payload_of result) self.old self.new }
+    {
+        self.board.plain_call(conn, call)
+    }
+
+    /// A call of a connection.
+    pub fn call(&mut self, conn: ConnNo, call: &Call) -> Result<Payload, Hr>
+        ensures { AnswersPlan D.faults D.told (λ st. call_plan st conn.0 call.now)
+            (code_of result) (payload_of result) self.old self.new }
+    {
+        match call {
+            Call::Release { client } => self.release(conn, *client),
+            Call::Reset { client } => self.reset(conn, *client),
+            Call::GetCurrentPadding { client } => self.get_current_padding(conn, *client),
+            Call::GetBuffer { client, frames } => self.get_buffer(conn, *client, *frames),
+            Call::ReleaseBuffer {
+                client,
+                frames,
+                flags,
+                bytes,
+            } => self.release_buffer(conn, *client, *frames, *flags, bytes.as_slice()),
+            Call::Initialize {
+                client,
+                share,
+                flags,
+                duration,
+                period,
+                format,
+                session,
+            } => self.initialize(&Opening {
+                conn,
+                client: *client,
+                share: *share,
+                flags: *flags,
+                duration: *duration,
+                period: *period,
+                format: format.as_slice(),
+                session: *session,
+            }),
+            _ => self.plain_call(conn, call),
+        }
+    }
+
+    /// A period of an endpoint.
+    pub fn period(&mut self, e: EndpointNo) -> Result<Payload, Hr>
+        ensures { AnswersPlan D.faults D.told (λ st. period_plan st e.0)
+            (code_of result) (payload_of result) self.old self.new }
+    {
+        let (answer, taken) = self.board.counted_period(e);
+        self.tally.take(&answer, taken);
+        answer
+    }
+
+    /// A device event.
+    pub fn device(&mut self, event: &DeviceEvent) -> Result<Payload, Hr>
+        ensures { AnswersPlan D.faults D.told (λ st. device_plan st event.now)
+            (code_of result) (payload_of result) self.old self.new }
+    {
+        match event {
+            DeviceEvent::Add {
+                endpoint,
+                flow,
+                format,
+                name,
+            } => self
+                .board
+                .add(self.alloc, *endpoint, *flow, format.as_slice(), name),
+            DeviceEvent::Other { .. } => self.board.unlisted_event(),
+        }
+    }
+}

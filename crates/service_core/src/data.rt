@@ -1,0 +1,157 @@
+//! Data calls on a stream whose both ends are here (IAudioClient, IAudioRenderClient).
+
+ghost use Rattle.std.specs.Prelude.{◌≡◌, min, length, Some, IfOk, IfErr};
+ghost use Rattle.std.specs.Result.{result_err};
+ghost use Rattle.ca_base.specs.Rows.{first};
+ghost use Rattle.client_state.specs.Rows.{side_rows};
+ghost use Rattle.client_state.specs.declared.check.DataCall.TheVariants as data_call;
+ghost use Rattle.ca_stage.specs.Tally.{Tally};
+ghost use Rattle.ca_machine.specs.Data.{frames_released, get_buffer_plan, get_current_padding_plan};
+ghost use Rattle.ca_machine.specs.Data.{release_buffer_plan};
+ghost use Rattle.period_engine.specs.Entries.{FitsStore};
+ghost use Rattle.service_core.specs.Answers.{code_of, payload_of};
+ghost use Rattle.service_core.specs.Core.{Goes, HasSide, HaveSides, IsLooked, IsTouched, Releases, seen_in};
+ghost use Rattle.service_core.specs.DataCalls.{FindsEntry, RefusesData};
+ghost use Rattle.service_core.specs.InOrder.{InOrder};
+
+use crate::putting::put_released;
+use crate::{Board, BothEnds, Payload};
+use buffer_ring::FrameStore;
+use ca_base::{ClientNo, ConnNo, Hr};
+use client_state::{DataCall, Verdict, data_check};
+use device_io::Devices;
+use period_engine::StreamEntry;
+
+/// Takes one look at an entry's store, and checks a data call: the code of its first row that holds, or else how many
+/// words are there.
+fn check<F: FrameStore>(entry: &mut StreamEntry<BothEnds<F>>, call: &DataCall) -> Result<u32, Hr>
+    ensures row { result_err result
+        ≡ first (side_rows entry.old.store.side call.now (seen_in (F.kept entry.old.store.store))) }
+    ensures count { IfOk result (λ words. words ≡ length (F.kept entry.old.store.store).words) }
+    ensures looked { IsLooked F.kept entry.old entry.new }
+{
+    let seen = entry.store.store.look();
+    match data_check(&entry.store.side, call, seen) {
+        Verdict::Answer(code) => Err(code),
+        Verdict::Go => Ok(seen.words),
+    }
+}
+
+/// IAudioRenderClient::GetBuffer on its stream: leases so many frames.
+fn lease<F: FrameStore>(entry: &mut StreamEntry<BothEnds<F>>, frames: u32) -> Result<(), Hr>
+    ensures row { result_err result ≡ first (side_rows entry.old.store.side (data_call.Get frames)
+        (seen_in (F.kept entry.old.store.store))) }
+    ensures refused { IfErr result (λ code. IsLooked F.kept entry.old entry.new) }
+    ensures leased { IfOk result (λ u. IsTouched F.kept (record (entry.old.store.side) { lease = Some frames })
+        (F.kept entry.old.store.store) entry.old entry.new) }
+{
+    check(entry, &DataCall::Get { n: frames })?;
+    entry.store.side.lease = Some(frames);
+    Ok(())
+}
+
+/// The size of a call's data. Sizes from 2^32 - 1 on stand for one another: no frames that fit a store have so many.
+fn size_of(bytes: &[u8]) -> u32
+    ensures { result ≡ min (length bytes.now) 4294967295 }
+{
+    bytes.len().min(u32::MAX as usize) as u32
+}
+
+/// IAudioRenderClient::ReleaseBuffer on its stream: the frames go into the store, and the lease ends.
+fn release<F: FrameStore>(
+    entry: &mut StreamEntry<BothEnds<F>>,
+    frames: u32,
+    flags: u32,
+    bytes: &[u8],
+) -> Result<(), Hr>
+    requires side { HasSide F.kept entry.old }
+    requires fits { FitsStore (λ ends. F.state ends.store) entry.old }
+    ensures row { result_err result ≡ first (side_rows entry.old.store.side
+        (data_call.Release frames flags (length bytes.now)) (seen_in (F.kept entry.old.store.store))) }
+    ensures refused { IfErr result (λ code. IsLooked F.kept entry.old entry.new) }
+    ensures released { IfOk result (λ u. Releases F.kept
+        (frames_released frames flags bytes.now entry.old.channels) frames entry.old entry.new) }
+{
+    let call = DataCall::Release {
+        m: frames,
+        flags,
+        len: size_of(bytes),
+    };
+    check(entry, &call)?;
+    put_released(
+        &mut entry.store.store,
+        frames,
+        flags,
+        entry.store.side.block,
+        bytes,
+    );
+    entry.store.side.released += frames as u64;
+    entry.store.side.lease = None;
+    Ok(())
+}
+
+impl<D: Devices, F: FrameStore> Board<D, BothEnds<F>> {
+    /// The place of the entry of a data call's client.
+    fn data_place(&self, conn: ConnNo, client: ClientNo) -> Result<usize, Hr>
+        ensures refused { IfErr result (RefusesData conn.0 client.0 self.now) }
+        ensures found { IfOk result (FindsEntry conn.0 client.0 self.now) }
+    {
+        self.live_client(conn, client)?;
+        match self.entry_place(client) {
+            Some(at) => Ok(at),
+            None => Err(Hr::NOT_INITIALIZED),
+        }
+    }
+
+    /// IAudioClient::GetCurrentPadding: the frames that are pending.
+    pub fn get_current_padding(&mut self, conn: ConnNo, client: ClientNo) -> Result<Payload, Hr>
+        requires order { InOrder (λ ends. F.state ends.store) self.old }
+        requires sides { HaveSides F.kept self.old }
+        ensures goes { (tally : Tally) → Goes D.faults D.told F.kept
+            (λ st. get_current_padding_plan st conn.0 client.0) (code_of result) (payload_of result) tally
+            self.old self.new }
+        ensures order { InOrder (λ ends. F.state ends.store) self.new }
+        ensures sides { HaveSides F.kept self.new }
+    {
+        let at = self.data_place(conn, client)?;
+        let words = check(&mut self.entries[at], &DataCall::Padding)?;
+        Ok(Payload::Number(words))
+    }
+
+    /// IAudioRenderClient::GetBuffer: leases so many frames.
+    pub fn get_buffer(&mut self, conn: ConnNo, client: ClientNo, frames: u32) -> Result<Payload, Hr>
+        requires order { InOrder (λ ends. F.state ends.store) self.old }
+        requires sides { HaveSides F.kept self.old }
+        ensures goes { (tally : Tally) → Goes D.faults D.told F.kept
+            (λ st. get_buffer_plan st conn.0 client.0 frames) (code_of result) (payload_of result) tally
+            self.old self.new }
+        ensures order { InOrder (λ ends. F.state ends.store) self.new }
+        ensures sides { HaveSides F.kept self.new }
+    {
+        let at = self.data_place(conn, client)?;
+        lease(&mut self.entries[at], frames)?;
+        Ok(Payload::Nothing)
+    }
+
+    /// IAudioRenderClient::ReleaseBuffer: the frames of these bytes, or silent ones, are pending from now on.
+    pub fn release_buffer(
+        &mut self,
+        conn: ConnNo,
+        client: ClientNo,
+        frames: u32,
+        flags: u32,
+        bytes: &[u8],
+    ) -> Result<Payload, Hr>
+        requires order { InOrder (λ ends. F.state ends.store) self.old }
+        requires sides { HaveSides F.kept self.old }
+        ensures goes { (tally : Tally) → Goes D.faults D.told F.kept
+            (λ st. release_buffer_plan st conn.0 client.0 frames flags bytes.now) (code_of result)
+            (payload_of result) tally self.old self.new }
+        ensures order { InOrder (λ ends. F.state ends.store) self.new }
+        ensures sides { HaveSides F.kept self.new }
+    {
+        let at = self.data_place(conn, client)?;
+        release(&mut self.entries[at], frames, flags, bytes)?;
+        Ok(Payload::Nothing)
+    }
+}

@@ -1,0 +1,109 @@
+//! Frames into a store: from bytes, or silent ones.
+
+ghost use Rattle.std.specs.Prelude.{◌≡◌, ◌≢◌, ℕ, ◌-◌, ◌*◌, ◌≤◌, ◌++◌, length, map, replicate};
+ghost use Rattle.ca_base.specs.declared.ids.Gate.TheVariants as gate;
+ghost use Rattle.wave_format.specs.Frame.{frame_of, frames_from};
+ghost use Rattle.client_state.specs.Frames.{frames_in};
+ghost use Rattle.ca_machine.specs.Data.{frames_released};
+ghost use Rattle.service_core.specs.Putting.{IsBlock, TookMore};
+
+use buffer_ring::FrameStore;
+use ca_base::values::BUFFER_SILENT;
+use wave_format::{frames_of_bytes_are_written, word_from_bytes, word_holds_the_frame};
+
+/// How many frames are turned into words at a time, on the stack.
+const BATCH: u32 = 64;
+
+/// Writes the words of frames of `N` bytes.
+fn words_of<const N: usize>(bytes: &[u8], words: &mut [u64])
+    requires size { length bytes.now ≡ length words.old * N }
+    requires block { IsBlock N }
+    ensures frames { (channels : ℕ) → N ≡ channels * 2 →
+        map (frame_of channels) words.new ≡ frames_from (length words.old) channels bytes.now }
+{
+    word_holds_the_frame();
+    frames_of_bytes_are_written();
+    let mut rest = bytes;
+    for i in 0..words.len() {
+        let (frame, after) = rest.split_at(N);
+        words[i] = word_from_bytes(frame);
+        rest = after;
+    }
+}
+
+/// Puts so many frames of `N` bytes into a store.
+fn put_blocks<F: FrameStore, const N: usize>(store: &mut F, frames: u32, bytes: &[u8])
+    requires opens { (F.kept store.old).gate ≡ gate.Open }
+    requires room { frames ≤ (F.kept store.old).cap - length (F.kept store.old).words }
+    requires size { length bytes.now ≡ frames * N }
+    requires block { IsBlock N }
+    ensures frames { (channels : ℕ) → N ≡ channels * 2 → frames_in channels (F.kept store.new).words
+        ≡ frames_in channels (F.kept store.old).words ++ frames_from frames channels bytes.now }
+    ensures took { TookMore frames (F.kept store.old) (F.kept store.new) }
+{
+    let mut rest = bytes;
+    let mut left = frames;
+    while left > 0 {
+        let count = left.min(BATCH);
+        let (front, after) = rest.split_at(count as usize * N);
+        let mut batch = [0; BATCH as usize];
+        let words = &mut batch[..count as usize];
+        words_of::<N>(front, words);
+        store.client_put(words);
+        rest = after;
+        left -= count;
+    }
+}
+
+/// Puts so many frames into a store: their bytes, little-endian, `block` of them a frame.
+pub fn put_frames<F: FrameStore>(store: &mut F, frames: u32, block: u32, bytes: &[u8])
+    requires opens { (F.kept store.old).gate ≡ gate.Open }
+    requires room { frames ≤ (F.kept store.old).cap - length (F.kept store.old).words }
+    requires size { length bytes.now ≡ frames * block }
+    requires block { IsBlock block }
+    ensures frames { (channels : ℕ) → block ≡ channels * 2 → frames_in channels (F.kept store.new).words
+        ≡ frames_in channels (F.kept store.old).words ++ frames_from frames channels bytes.now }
+    ensures took { TookMore frames (F.kept store.old) (F.kept store.new) }
+{
+    match block {
+        2 => put_blocks::<F, 2>(store, frames, bytes),
+        4 => put_blocks::<F, 4>(store, frames, bytes),
+        6 => put_blocks::<F, 6>(store, frames, bytes),
+        8 => put_blocks::<F, 8>(store, frames, bytes),
+        _ => unreachable!(),
+    }
+}
+
+/// Puts so many silent frames into a store.
+pub fn put_silence<F: FrameStore>(store: &mut F, frames: u32)
+    requires opens { (F.kept store.old).gate ≡ gate.Open }
+    requires room { frames ≤ (F.kept store.old).cap - length (F.kept store.old).words }
+    ensures words { (F.kept store.new).words ≡ (F.kept store.old).words ++ replicate frames 0 }
+    ensures took { TookMore frames (F.kept store.old) (F.kept store.new) }
+{
+    let silence = [0; BATCH as usize];
+    let mut left = frames;
+    while left > 0 {
+        let count = left.min(BATCH);
+        store.client_put(&silence[..count as usize]);
+        left -= count;
+    }
+}
+
+/// Puts the frames of a ReleaseBuffer into a store: silent ones by AUDCLNT_BUFFERFLAGS_SILENT, else those of the bytes,
+/// `block` of them a frame.
+pub fn put_released<F: FrameStore>(store: &mut F, frames: u32, flags: u32, block: u32, bytes: &[u8])
+    requires opens { (F.kept store.old).gate ≡ gate.Open }
+    requires room { frames ≤ (F.kept store.old).cap - length (F.kept store.old).words }
+    requires size { flags ≢ BUFFER_SILENT → length bytes.now ≡ frames * block }
+    requires block { IsBlock block }
+    ensures frames { (channels : ℕ) → block ≡ channels * 2 → frames_in channels (F.kept store.new).words
+        ≡ frames_in channels (F.kept store.old).words ++ frames_released frames flags bytes.now channels }
+    ensures took { TookMore frames (F.kept store.old) (F.kept store.new) }
+{
+    if flags == BUFFER_SILENT {
+        put_silence(store, frames);
+    } else {
+        put_frames(store, frames, block, bytes);
+    }
+}
