@@ -40,6 +40,15 @@ class Bench(unittest.TestCase):
                 self.assertEqual([len(event.values["bytes"]) for event in events[1::12]], [size] * 3)
                 self.assertEqual(source.played, 3 * size)
 
+    def test_streams(self):
+        for count in bench.STREAMS:
+            with self.subTest(count):
+                source = bench.streams(self.folder / "events", count, 3)
+                names = [event.name for event in self.events(source)]
+                self.assertEqual(names, ["Add", "Open"] + ["Activate", "Initialize", "Start"] * count
+                                 + (["GetBuffer", "ReleaseBuffer"] * count + ["Period"]) * 3)
+                self.assertEqual(source.played, 3 * 1920)
+
     def test_the_floors_copy_the_input(self):
         source = bench.small_events(self.folder / "events", 100)
         for name, run in bench.runners_of("none", source).items():

@@ -28,7 +28,7 @@ COMMENT = {".rt": r"//.*", ".antt": r"--.*"}
 
 BUILT = "crates/audio_daemon/out/audio_daemon"  # the program, which the gate makes
 PLACEHOLDERS = {"FOLDER", "FILE", "SCRIPT", "NAME", "CODE", "N", "P"}  # each stands for a word of the reader's
-OUTSIDE = {"unsafe", "memcpy", "memset", "VecDeque", "valgrind", "callgrind"}  # words of the language and the system
+OUTSIDE = {"unsafe", "memcpy", "memset", "valgrind", "callgrind"}  # words of the language and the system
 
 
 def repository():
@@ -311,7 +311,7 @@ class Tables(unittest.TestCase):
                 self.assertEqual(number(value.replace(",", ""), {}), values.get(name))
 
     def test_codes_in_the_rules(self):
-        for name, value in re.findall(r"\b([A-Z][A-Z_]+) \((0x[0-9A-F]{8})\)", PROSE["RULES.md"]):
+        for name, value in re.findall(r"\b([A-Z][A-Z_]+)\s\((0x[0-9A-F]{8})\)", PROSE["RULES.md"]):
             with self.subTest(name):
                 self.assertEqual(int(value, 16), wire.RESULTS.get(name))
 

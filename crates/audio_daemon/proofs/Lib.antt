@@ -1,15 +1,3 @@
-pub mod Frames
-pub mod StreamSteps
-pub mod Rows
-pub mod Texts
-pub mod MixOne
-pub mod Actions
-pub mod Playing
-pub mod PeriodStates
-pub mod Sounding
-pub mod Gets
-pub mod Granted
-pub mod Asked
 pub mod Replays
 pub mod RunStatus
 pub mod Complete

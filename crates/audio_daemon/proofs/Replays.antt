@@ -1,20 +1,33 @@
 -- Answers of the machine as a desk are a run of the machine.
 use Rattle.std.proofs.Common.{◌≡◌, ℕ, List, [], ◌∷◌, ◌++◌, map, Option, Some, None, refl, sym, ap, subst, ◌∙◌}
+use Rattle.std.proofs.Common.{append-nil, inl, arith}
 use Rattle.std.specs.Option.{option_map}
+use Rattle.std.specs.Io.KnownBytes.{Appends, Consumes}
 use Rattle.std.proofs.lemmas.List.Concat.{flat_map-cons}
 use Rattle.device_io.specs.DeviceLog.{DeviceLog, add_all, add_written}
 use Rattle.ca_model.specs.declared.event.Event.{Event}
 use Rattle.ca_model.specs.declared.reply.Reply.{Reply}
-use Rattle.first_machine.specs.Plan.{Answer}
-use Rattle.first_machine.specs.Plan.Answer.{found, short, took, failed, gave, loaded, stored, keeper_short}
-use Rattle.first_machine.specs.State.{State, empty_state}
-use Rattle.first_machine.specs.Step.{Entry, IsRun, FaultsAlong, answers_of, output_of}
-use Rattle.first_machine.specs.Headline.{RunsHaveHeadline}
+use Rattle.ca_model.specs.Spelling.IsIncomplete.{no_length}
+use Rattle.ca_machine.specs.Plan.{Answer}
+use Rattle.ca_machine.specs.Plan.Answer.{
+  found,
+  out_of_memory,
+  took,
+  failed,
+  gave,
+  loaded,
+  stored,
+  keeper_out_of_memory,
+  keeper_failed,
+}
+use Rattle.ca_machine.specs.State.{State, empty_state}
+use Rattle.ca_machine.specs.Step.{Entry, IsRun, FaultsAlong, answers_of, output_of}
+use Rattle.ca_machine.specs.Headline.{RunsHaveHeadline}
 use Rattle.event_loop.specs.Runs.{Runs}
 use Rattle.event_loop.specs.Ends.{moment, Ends, Reached, Writing}
 use Rattle.event_loop.specs.declared.ends.LoopEnd.{LoopEnd}
 use Rattle.event_loop.specs.declared.ends.LoopEnd.TheVariants as ends
-use Rattle.audio_daemon.specs.Machine.{Seen, Answers}
+use Rattle.ca_machine.specs.View.{MachineView, AnswersEvent}
 use Rattle.audio_daemon.specs.Run.{EachReplies, Replayed}
 
 -- a count of faults along answers and then others
@@ -22,12 +35,13 @@ faults-append : (a b c : ℕ) (xs ys : List Answer) → FaultsAlong a xs b → F
 faults-append a b c [] ys first second = subst (λ (n : ℕ). FaultsAlong n ys c) first second
 faults-append a b c (failed ∷ xs) ys first second = (first.0, first.1, faults-append first.0 b c xs ys first.2 second)
 faults-append a b c (found ∷ xs) ys first second = faults-append a b c xs ys first second
-faults-append a b c (short ∷ xs) ys first second = faults-append a b c xs ys first second
+faults-append a b c (out_of_memory ∷ xs) ys first second = faults-append a b c xs ys first second
 faults-append a b c (took n ∷ xs) ys first second = faults-append a b c xs ys first second
 faults-append a b c (gave bs ∷ xs) ys first second = faults-append a b c xs ys first second
 faults-append a b c (loaded kept ∷ xs) ys first second = faults-append a b c xs ys first second
 faults-append a b c (stored ∷ xs) ys first second = faults-append a b c xs ys first second
-faults-append a b c (keeper_short ∷ xs) ys first second = faults-append a b c xs ys first second
+faults-append a b c (keeper_out_of_memory ∷ xs) ys first second = faults-append a b c xs ys first second
+faults-append a b c (keeper_failed ∷ xs) ys first second = faults-append a b c xs ys first second
 
 -- what devices hold after pieces and then others
 add_all-append : (xs ys : List (ℕ × List ℕ)) (held : List DeviceLog) → add_all (xs ++ ys) held ≡ add_all ys (add_all xs held)
@@ -47,8 +61,8 @@ same_told None = refl
 same_told (Some held) = refl
 
 -- what the answers of a desk are, from any state
-record Found {D : Type 0} (faults : D → ℕ) (told : D → Option (List DeviceLog)) (old : Seen D)
-    (events : List Event) (replies : List Reply) (new : Seen D) : Type 0 where
+record Found {D : Type 0} (faults : D → ℕ) (told : D → Option (List DeviceLog)) (old : MachineView D)
+    (events : List Event) (replies : List Reply) (new : MachineView D) : Type 0 where
   entries : List Entry
   events_are : map (λ entry. entry.event) entries ≡ events
   run : IsRun old.state entries new.state
@@ -57,8 +71,8 @@ record Found {D : Type 0} (faults : D → ℕ) (told : D → Option (List Device
   counts : FaultsAlong (faults old.devices) (answers_of entries) (faults new.devices)
 
 module _ {D : Type 0} (faults : D → ℕ) (told : D → Option (List DeviceLog)) where
-  nothing_yet : (old new : Seen D) → new ≡ old → Found faults told old [] [] new
-  nothing_yet old new same = subst (λ (n : Seen D). Found faults told old [] [] n) (sym same) (record {
+  nothing_yet : (old new : MachineView D) → new ≡ old → Found faults told old [] [] new
+  nothing_yet old new same = subst (λ (n : MachineView D). Found faults told old [] [] n) (sym same) (record {
     entries = [];
     events_are = refl;
     run = refl;
@@ -67,8 +81,8 @@ module _ {D : Type 0} (faults : D → ℕ) (told : D → Option (List DeviceLog)
     counts = refl;
   })
 
-  one_more : (old mid new : Seen D) (e : Event) (es : List Event) (r : Reply) (rs : List Reply)
-      → Answers faults told old e r mid → Found faults told mid es rs new → Found faults told old (e ∷ es) (r ∷ rs) new
+  one_more : (old mid new : MachineView D) (e : Event) (es : List Event) (r : Reply) (rs : List Reply)
+      → AnswersEvent faults told old e r mid → Found faults told mid es rs new → Found faults told old (e ∷ es) (r ∷ rs) new
   one_more old mid new e es r rs first rest =
       let output = flat_map-cons (λ (entry : Entry). entry.output) first.entry rest.entries in
       let answers = flat_map-cons (λ (entry : Entry). entry.answers) first.entry rest.entries in
@@ -84,22 +98,22 @@ module _ {D : Type 0} (faults : D → ℕ) (told : D → Option (List DeviceLog)
         replied = (first.replies, rest.replied);
         tells =
             told-append first.entry.output (output_of rest.entries)
-            (told old.devices) (told mid.devices) (told new.devices) first.tells rest.tells
+            (told old.devices) (told mid.devices) (told new.devices) first.passes.tells rest.tells
             ∙ ap (λ (ws : List (ℕ × List ℕ)). option_map (add_all ws) (told old.devices)) (sym output);
         counts = subst (λ (xs : List Answer). FaultsAlong before xs after) (sym answers)
-            (faults-append before here after first.entry.answers (answers_of rest.entries) first.counts rest.counts);
+            (faults-append before here after first.entry.answers (answers_of rest.entries) first.passes.counts rest.counts);
       }
 
-  found_in : (old new : Seen D) (events : List Event) (replies : List Reply)
-      → Runs (Answers faults told) old events replies new → Found faults told old events replies new
+  found_in : (old new : MachineView D) (events : List Event) (replies : List Reply)
+      → Runs (AnswersEvent faults told) old events replies new → Found faults told old events replies new
   found_in old new [] [] h = nothing_yet old new h
   found_in old new [] (r ∷ rs) h = absurd h
   found_in old new (e ∷ es) [] h = absurd h
   found_in old new (e ∷ es) (r ∷ rs) h = one_more old h.0 new e es r rs h.1 (found_in h.0 new es rs h.2)
 
-  module _ (law : RunsHaveHeadline) (old : Seen D) (empty : old.state ≡ empty_state) where
-    replayed : (new : Seen D) (events : List Event) (replies : List Reply)
-        → Runs (Answers faults told) old events replies new
+  module _ (law : RunsHaveHeadline) (old : MachineView D) (empty : old.state ≡ empty_state) where
+    replayed : (new : MachineView D) (events : List Event) (replies : List Reply)
+        → Runs (AnswersEvent faults told) old events replies new
         → Replayed faults told old.devices events replies new.devices
     replayed new events replies h =
         let f = found_in old new events replies h in
@@ -116,9 +130,9 @@ module _ {D : Type 0} (faults : D → ℕ) (told : D → Option (List DeviceLog)
           headline = law f.entries new.state run;
         }
 
-    module _ (left written left' written' : Option (List ℕ)) (new : Seen D) where
+    module _ (left written left' written' : Option (List ℕ)) (new : MachineView D) where
       reached : (wrote : Writing) (holds : List ℕ → List ℕ → Type 0)
-          → Reached (Runs (Answers faults told)) wrote holds (moment left written old) (moment left' written' new)
+          → Reached (Runs (AnswersEvent faults told)) wrote holds (moment left written old) (moment left' written' new)
           → Reached (Replayed faults told) wrote holds
           (moment left written old.devices) (moment left' written' new.devices)
       reached wrote holds h = record {
@@ -136,7 +150,7 @@ module _ {D : Type 0} (faults : D → ℕ) (told : D → Option (List DeviceLog)
 
       -- an end of the loop over the machine is one over its runs
       pub lifted : (end : LoopEnd)
-          → Ends (Runs (Answers faults told)) (moment left written old) (moment left' written' new) end
+          → Ends (Runs (AnswersEvent faults told)) (moment left written old) (moment left' written' new) end
           → Ends (Replayed faults told) (moment left written old.devices) (moment left' written' new.devices) end
       lifted ends.Done h = reached _ _ h
       lifted (ends.Malformed place) h = reached _ _ h
@@ -144,3 +158,38 @@ module _ {D : Type 0} (faults : D → ℕ) (told : D → Option (List DeviceLog)
       lifted ends.WriteFault h = reached _ _ h
       lifted ends.NoMemory h = reached _ _ h
       lifted ends.TooLong h = reached _ _ h
+
+-- nothing was read or written
+consumes_none : (left : Option (List ℕ)) → Consumes left left []
+consumes_none None = tt
+consumes_none (Some bytes) = refl
+
+appends_none : (written : Option (List ℕ)) → Appends written written []
+appends_none None = tt
+appends_none (Some bytes) = sym (append-nil bytes)
+
+-- memory ran out before anything was read
+pub nothing_began : {D : Type 0} (faults : D → ℕ) (told : D → Option (List DeviceLog)) → RunsHaveHeadline →
+    (left written : Option (List ℕ)) (devices : D) →
+    Ends (Replayed faults told) (moment left written devices) (moment left written devices) ends.NoMemory
+nothing_began faults told law left written devices = record {
+  events = [];
+  replies = [];
+  rest = [];
+  answered = record {
+    read = consumes_none left;
+    each = tt;
+    runs = record {
+      entries = [];
+      state = empty_state;
+      events_are = refl;
+      run = refl;
+      replied = tt;
+      tells = same_told (told devices);
+      counts = refl;
+      headline = law [] empty_state refl;
+    };
+    written = appends_none written;
+  };
+  here = inl (record { incomplete = no_length (omega arith); size = omega arith });
+}

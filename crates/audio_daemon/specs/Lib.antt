@@ -1,13 +1,3 @@
-pub mod Streams
-pub mod Words
-pub mod Service
-pub mod Release
-pub mod Actions
-pub mod Period
-pub mod Playing
-pub mod Sounding
-pub mod Machine
-pub mod Gets
 pub mod Run
 pub mod Complete
 pub mod StatusLine

@@ -5,9 +5,9 @@ use Rattle.std.specs.Str.{bytes_eq}
 use Rattle.device_io.specs.DeviceLog.{DeviceLog, add_all}
 use Rattle.ca_model.specs.declared.event.Event.{Event}
 use Rattle.ca_model.specs.declared.reply.Reply.{Reply}
-use Rattle.first_machine.specs.State.{State, empty_state}
-use Rattle.first_machine.specs.Step.{Entry, IsRun, Replies, FaultsAlong, answers_of, output_of}
-use Rattle.first_machine.specs.Headline.{Headline}
+use Rattle.ca_machine.specs.State.{State, empty_state}
+use Rattle.ca_machine.specs.Step.{Entry, IsRun, Replies, FaultsAlong, answers_of, output_of}
+use Rattle.ca_machine.specs.Headline.{Headline}
 use Rattle.event_loop.specs.Ends.{Moment, Ends}
 use Rattle.event_loop.specs.declared.ends.LoopEnd.{LoopEnd}
 use Rattle.event_loop.specs.declared.ends.LoopEnd.TheVariants as ends

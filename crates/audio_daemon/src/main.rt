@@ -7,7 +7,8 @@ ghost use Rattle.std.specs.Io.KnownBytes.{Keeps};
 ghost use Rattle.audio_daemon.specs.Run.{exit_status, is_replay};
 ghost use Rattle.audio_daemon.specs.StatusLine.{Finishes};
 
-mod machine;
+#[cfg(test)]
+mod rows;
 mod run;
 mod status_line;
 #[cfg(test)]

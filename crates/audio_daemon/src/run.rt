@@ -6,11 +6,12 @@ ghost use Rattle.event_loop.specs.Complete.{DidNotRise};
 ghost use Rattle.audio_daemon.specs.Run.{RunEnds, is_folder, is_replay, read_failed, status_of, write_failed};
 ghost use Rattle.audio_daemon.specs.Complete.{Completes};
 
-use crate::machine::{Machine, REPLY_ROOM};
-use ca_base::{Sink, Source, Words};
+use buffer_ring::PlainStore;
+use ca_base::{NoMemory, Sink, Source, Words};
+use ca_machine::headline::headline;
 use device_io::Devices;
 use event_loop::{LoopEnd, answer_events};
-use first_machine::headline::headline;
+use service_core::{Core, REPLY_ROOM};
 use std::alloc::Global;
 
 /// How a run of the program ended.
@@ -93,7 +94,10 @@ pub fn run<S: Source, K: Sink, D: Devices>(
     if !are_replay(words) {
         return (Status::Usage, devices);
     }
-    let mut machine = Machine::new(alloc, devices);
-    let end = answer_events(alloc, input, output, &mut machine, REPLY_ROOM);
-    (end.into(), machine.into_devices())
+    let mut core: Core<D, PlainStore> = match Core::new(alloc, devices) {
+        Ok(core) => core,
+        Err((NoMemory, devices)) => return (Status::NoMemory, devices),
+    };
+    let end = answer_events(alloc, input, output, &mut core, REPLY_ROOM);
+    (end.into(), core.into_devices())
 }

@@ -7,17 +7,17 @@ use std::alloc::Global;
 use std::test::Fail;
 
 /// Device event Add: endpoint 1, render, 48,000 Hz, two channels, `Speakers`.
-const ADD: &[u8] =
+pub const ADD: &[u8] =
     b"\x25\0\0\0\x05\x01\x01\0\0\0\0\x12\0\x01\0\x02\0\x80\xbb\0\0\0\xee\x02\0\x04\0\x10\0\0\0\x08\0Speakers";
 
 /// Open: connection 1, process 10, `player`.
-const OPEN: &[u8] = b"\x0e\0\0\0\x01\x01\x0a\0\0\0\x06\0player";
+pub const OPEN: &[u8] = b"\x0e\0\0\0\x01\x01\x0a\0\0\0\x06\0player";
 
 /// Activate on endpoint 1, tag 1.
-const ACTIVATE: &[u8] = b"\x0c\0\0\0\x03\x01\x01\0\0\0\x05\x01\0\0\0\0";
+pub const ACTIVATE: &[u8] = b"\x0c\0\0\0\x03\x01\x01\0\0\0\x05\x01\0\0\0\0";
 
 /// Initialize of client 1: shared, duration 0, the endpoint's format, tag 2.
-const INITIALIZE: &[u8] =
+pub const INITIALIZE: &[u8] =
     b"\x4b\0\0\0\x03\x01\x02\0\0\0\x10\x01\0\0\0\0\0\0\0\0\0\0\0\0\0\0\0\0\0\0\0\0\0\0\0\0\0\0\0\0\0\0\0\x12\0\x01\0\x02\0\x80\xbb\0\0\0\xee\x02\0\x04\0\x10\0\0\0\0\0\0\0\0\0\0\0\0\0\0\0\0\0\0\0";
 
 /// GetBuffer of 480 frames, tag 3.
@@ -51,7 +51,7 @@ fn frames(alloc: Global) -> Result<Vec<u8>, Fail> {
 }
 
 /// These pieces, joined.
-fn joined(alloc: Global, pieces: &[&[u8]]) -> Result<Vec<u8>, Fail> {
+pub fn joined(alloc: Global, pieces: &[&[u8]]) -> Result<Vec<u8>, Fail> {
     let mut bytes = Vec::new(alloc);
     for piece in pieces {
         bytes.extend_from_slice(piece)?;
@@ -72,15 +72,15 @@ fn played(alloc: Global) -> Result<Vec<u8>, Fail> {
 
 /// What a run came to: its status, the output, and what the device of endpoint 1 got.
 #[derive(Drop)]
-struct Outcome {
-    status: Status,
-    output: Vec<u8>,
-    device: Vec<u8>,
+pub struct Outcome {
+    pub status: Status,
+    pub output: Vec<u8>,
+    pub device: Vec<u8>,
 }
 
 /// Runs over these bytes. Reads and writes of these numbers fail, and so do these calls of the device, of which a number
 /// other than 0 beside a call's says how many bytes it takes before the next one fails.
-fn replay(
+pub fn replay(
     alloc: Global,
     bytes: &[u8],
     reads: &[u64],
@@ -124,63 +124,13 @@ fn an_empty_input_is_done(rt: HostRuntime) -> Result<(), Fail> {
     Ok(())
 }
 
-/// GetBuffer of 1, of 960 and of 961 frames, tag 3.
+/// GetBuffer of one frame, tag 3.
 const GET_ONE: &[u8] = b"\x13\0\0\0\x03\x01\x03\0\0\0\x20\x01\0\0\0\0\0\0\0\x01\0\0\0";
 
-const GET_ALL: &[u8] = b"\x13\0\0\0\x03\x01\x03\0\0\0\x20\x01\0\0\0\0\0\0\0\xc0\x03\0\0";
-
-const GET_MORE: &[u8] = b"\x13\0\0\0\x03\x01\x03\0\0\0\x20\x01\0\0\0\0\0\0\0\xc1\x03\0\0";
-
-/// A call of code 200, which isn't listed, tag 3.
-const UNLISTED: &[u8] = b"\x0a\0\0\0\x03\x01\x03\0\0\0\xc8abc";
-
-/// Stop of client 1, tag 3, and a hang-up of connection 1.
-const STOP: &[u8] = b"\x0f\0\0\0\x03\x01\x03\0\0\0\x18\x01\0\0\0\0\0\0\0";
-
-const HANG_UP: &[u8] = b"\x02\0\0\0\x02\x01";
-
-/// The head of a reply with tag 3 and no payload.
+/// The head of a reply with tag 3 and no payload, and AUDCLNT_E_DEVICE_INVALIDATED.
 const TAG_3: &[u8] = b"\x0a\0\0\0\x03\x01\x03\0\0\0";
 
-/// The head of a reply to a hang-up.
-const HUNG_UP: &[u8] = b"\x0a\0\0\0\x02\x01\0\0\0\0";
-
-const NOT_INITIALIZED: &[u8] = b"\x01\0\x89\x88";
-
 const DEVICE_INVALIDATED: &[u8] = b"\x04\0\x89\x88";
-
-const BUFFER_TOO_LARGE: &[u8] = b"\x06\0\x89\x88";
-
-const E_NOTIMPL: &[u8] = b"\x01\x40\0\x80";
-
-const S_OK: &[u8] = b"\0\0\0\0";
-
-#[test]
-fn calls_are_refused_by_their_first_row(rt: HostRuntime) -> Result<(), Fail> {
-    let alloc = rt.alloc();
-    let cases: [(&[&[u8]], &[&[u8]]); 5] = [
-        (&[OPEN, ADD, ACTIVATE, GET_ONE], &[TAG_3, NOT_INITIALIZED]),
-        (
-            &[ADD, OPEN, ACTIVATE, INITIALIZE, GET_MORE],
-            &[TAG_3, BUFFER_TOO_LARGE],
-        ),
-        (
-            &[ADD, OPEN, ACTIVATE, INITIALIZE, GET_ALL, GET_MORE],
-            &[TAG_3, S_OK, TAG_3, E_NOTIMPL],
-        ),
-        (&[OPEN, UNLISTED], &[TAG_3, E_NOTIMPL]),
-        (
-            &[OPEN, STOP, HANG_UP],
-            &[TAG_3, E_NOTIMPL, HUNG_UP, E_NOTIMPL],
-        ),
-    ];
-    for (events, ending) in &cases {
-        let got = replay(alloc, &joined(alloc, events)?, &[], &[], &[])?;
-        assert_eq!(rt; got.status, Status::Done);
-        assert!(rt; got.output.ends_with(&joined(alloc, ending)?));
-    }
-    Ok(())
-}
 
 #[test]
 fn a_device_that_fails_closes_the_stream(rt: HostRuntime) -> Result<(), Fail> {
@@ -278,12 +228,11 @@ fn frames_that_spell_no_event_are_malformed(rt: HostRuntime) -> Result<(), Fail>
         alloc,
         &[b"\x09\x01\0\0\x01\x01\x0a\0\0\0\x01\x01", &[b'a'; 257]],
     )?;
-    let frames: [&[u8]; 15] = [
+    let frames: [&[u8]; 14] = [
         b"\0\0\0\0",
         b"\x01\0\x40\0",
         b"\xff\xff\xff\xff",
         b"\x01\0\0\0\0",
-        b"\x01\0\0\0\x02",
         b"\x01\0\0\0\x06",
         b"\x01\0\0\0\x07",
         b"\x01\0\0\0\x08",
