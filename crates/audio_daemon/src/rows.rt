@@ -1,5 +1,7 @@
 //! Rows of calls, each worked out by hand: what is asked, and the reply that it gets.
 
+ghost use Rattle.std.specs.Prelude.{◌≤◌};
+
 use crate::run::Status;
 use crate::tests::{ACTIVATE, ADD, INITIALIZE, OPEN, joined, replay};
 use std::alloc::Global;
@@ -268,12 +270,19 @@ const REFUSALS: &[Row] = &[
     (&[ADD], &[(Ask::Call(19, ONE), E_HANDLE, b"")]),
 ];
 
+/// The size of fields or of a payload; none here is as long as 64 KiB.
+fn size_of(bytes: &[u8]) -> u32
+    ensures { result ≤ 65536 }
+{
+    bytes.len().min(65_536) as u32
+}
+
 /// Puts the frame of what is asked behind the input, and the frame of its reply behind the output.
 fn put(exchange: &Exchange, input: &mut Vec<u8>, output: &mut Vec<u8>) -> Result<(), Fail> {
     let (ask, result, payload) = *exchange;
     let head: &[u8] = match ask {
         Ask::Call(code, fields) => {
-            input.extend_from_slice(&(fields.len() as u32 + 7).to_le_bytes())?;
+            input.extend_from_slice(&(size_of(fields) + 7).to_le_bytes())?;
             input.extend_from_slice(&[3, 1, 9, 0, 0, 0, code])?;
             input.extend_from_slice(fields)?;
             &[3, 1, 9, 0, 0, 0]
@@ -291,7 +300,7 @@ fn put(exchange: &Exchange, input: &mut Vec<u8>, output: &mut Vec<u8>) -> Result
             &[1, 1, 0, 0, 0, 0]
         }
     };
-    output.extend_from_slice(&(payload.len() as u32 + 10).to_le_bytes())?;
+    output.extend_from_slice(&(size_of(payload) + 10).to_le_bytes())?;
     output.extend_from_slice(head)?;
     output.extend_from_slice(&result.to_le_bytes())?;
     output.extend_from_slice(payload)?;
