@@ -12,10 +12,10 @@ use Rattle.ca_stage.specs.Tally.{Tally, no_tally}
 use Rattle.ca_machine.specs.State.{empty_state}
 use Rattle.ca_machine.specs.Step.{plan, step}
 use Rattle.ca_machine.specs.View.{AnswersEvent, MachineView}
+use Rattle.service_board.specs.New.{IsNewBoard}
+use Rattle.service_board.specs.declared.board.Board.{Board}
 use Rattle.service_core.specs.Core.{HasSide, core_datas, core_state}
-use Rattle.service_core.specs.New.{IsNewBoard}
 use Rattle.service_core.specs.Service.{AnswersPlan, HasHead, HasSameHead, IsCore}
-use Rattle.service_core.specs.declared.board.Board.{Board}
 use Rattle.service_core.specs.declared.both_ends.BothEnds.{BothEnds}
 
 -- the entry has the reply's result and payload, and the moves and the output of the step

@@ -11,13 +11,13 @@ use Rattle.ca_stage.specs.Tally.{Tally, no_tally}
 use Rattle.ca_machine.specs.State.{State}
 use Rattle.ca_machine.specs.Plan.{Plan}
 use Rattle.ca_machine.specs.View.{MachineView}
+use Rattle.service_board.specs.Does.{Does}
+use Rattle.service_board.specs.InOrder.{InOrder}
+use Rattle.service_board.specs.declared.board.Board.{Board}
 use Rattle.service_core.specs.BothEnds.{MovesStore}
-use Rattle.service_core.specs.Does.{Does}
-use Rattle.service_core.specs.InOrder.{InOrder}
 use Rattle.service_core.specs.Core.{Goes, GoesTo, core_datas}
-use Rattle.service_core.specs.Control.{HasCounts}
+use Rattle.service_core.specs.Counting.{HasCounts}
 use Rattle.service_core.specs.Service.{AnswersPlan, IsCore, core_view, tally_of}
-use Rattle.service_core.specs.declared.board.Board.{Board}
 use Rattle.service_core.specs.declared.both_ends.BothEnds.{BothEnds}
 use Rattle.service_core.specs.declared.tally.Tally.{Tally as Counts}
 use Rattle.service_core.proofs.CoreSteps.{core_goes, core_sides}

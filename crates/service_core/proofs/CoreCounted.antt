@@ -18,14 +18,14 @@ use Rattle.ca_machine.specs.Plan.{Answer, Plan, outcome_of}
 use Rattle.ca_machine.proofs.LiveClients.{found_is_live}
 use Rattle.period_engine.specs.declared.entry.StreamEntry.{StreamEntry}
 use Rattle.period_engine.specs.Entries.{stream_of}
+use Rattle.service_board.specs.Does.{Does}
+use Rattle.service_board.specs.InOrder.{Belongs, InOrder}
+use Rattle.service_board.specs.declared.payload.Payload.TheVariants as payload_is
+use Rattle.service_board.specs.declared.board.Board.{Board}
 use Rattle.service_core.specs.BothEnds.{MovesStore}
-use Rattle.service_core.specs.Does.{Does}
-use Rattle.service_core.specs.InOrder.{Belongs, InOrder}
 use Rattle.service_core.specs.Core.{Goes, GoesTo, LooksAround, core_datas, core_state, open_words}
-use Rattle.service_core.specs.Control.{after_taking, more_dropped, more_reset}
+use Rattle.service_core.specs.Counting.{after_taking, more_dropped, more_reset}
 use Rattle.service_core.specs.Service.{IsCore}
-use Rattle.service_core.specs.declared.payload.Payload.TheVariants as payload_is
-use Rattle.service_core.specs.declared.board.Board.{Board}
 use Rattle.service_core.specs.declared.both_ends.BothEnds.{BothEnds}
 use Rattle.service_core.proofs.CoreSteps.{each_of}
 use Rattle.service_core.proofs.CoreAnswers.{board_core, board_goes}

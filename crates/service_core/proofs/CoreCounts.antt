@@ -17,10 +17,10 @@ use Rattle.ca_machine.specs.State.{State}
 use Rattle.ca_machine.specs.Plan.{Answer, Plan, outcome_of}
 use Rattle.ca_machine.specs.View.{AnswersBy, outside}
 use Rattle.period_engine.specs.Entries.{AreInOrder, stream_of}
+use Rattle.service_board.specs.declared.payload.Payload.TheVariants as payload_is
+use Rattle.service_board.specs.declared.board.Board.{Board}
 use Rattle.service_core.specs.Core.{Goes, GoesTo, LooksAround, core_data, core_datas, core_state, open_words}
-use Rattle.service_core.specs.Control.{after_taking, more_dropped, more_reset}
-use Rattle.service_core.specs.declared.payload.Payload.TheVariants as payload_is
-use Rattle.service_core.specs.declared.board.Board.{Board}
+use Rattle.service_core.specs.Counting.{after_taking, more_dropped, more_reset}
 use Rattle.service_core.specs.declared.both_ends.BothEnds.{BothEnds}
 use Rattle.service_core.proofs.EntryData.{data_found, each_entry, entry_at}
 use Rattle.service_core.proofs.TallyFalls.{open_padding, open_pads}

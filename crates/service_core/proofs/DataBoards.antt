@@ -26,14 +26,14 @@ use Rattle.ca_machine.specs.Plan.{Outcome, answered, granted}
 use Rattle.ca_machine.specs.Data.{data_plan}
 use Rattle.period_engine.specs.declared.entry.StreamEntry.{StreamEntry}
 use Rattle.period_engine.specs.Entries.{IsRested}
-use Rattle.service_core.specs.InOrder.{InOrder}
+use Rattle.service_board.specs.InOrder.{InOrder}
+use Rattle.service_board.specs.declared.board.Board.{Board}
 use Rattle.service_core.specs.Core.{Goes, HasSide, HaveSides, IsLooked, IsTouched, Releases, seen_in}
 use Rattle.service_core.specs.DataCalls.{FindsEntry}
-use Rattle.service_core.specs.declared.board.Board.{Board}
 use Rattle.service_core.specs.declared.both_ends.BothEnds.{BothEnds}
+use Rattle.service_board.proofs.OneEntry.{IsSole, sole_there}
+use Rattle.service_board.proofs.StreamMoves.{ChangesOne, order_kept}
 use Rattle.service_core.proofs.ReleaseRows.{get_passes, release_passes}
-use Rattle.service_core.proofs.OneEntry.{IsSole, sole_there}
-use Rattle.service_core.proofs.StreamMoves.{ChangesOne, order_kept}
 use Rattle.service_core.proofs.DataSteps.{core_stream, data_moved, data_row_refused, data_told}
 use Rattle.service_core.proofs.DataEntries.{
   leased_rested,

@@ -11,8 +11,8 @@ use Rattle.ca_stage.proofs.Lists.{found_passes, all_both}
 use Rattle.ca_stage.proofs.Streams.{is_of}
 use Rattle.period_engine.specs.declared.entry.StreamEntry.{StreamEntry}
 use Rattle.period_engine.specs.Entries.{AreInOrder, stream_of, streams_of}
-use Rattle.service_core.specs.Does.{store_at, channels_at}
-use Rattle.service_core.specs.Lookups.{is_entry_of}
+use Rattle.service_board.specs.Does.{store_at, channels_at}
+use Rattle.service_board.specs.Lookups.{is_entry_of}
 use Rattle.service_core.specs.Core.{core_data, core_datas}
 use Rattle.service_core.specs.declared.both_ends.BothEnds.{BothEnds}
 

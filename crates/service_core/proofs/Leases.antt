@@ -6,11 +6,11 @@ use Rattle.std.proofs.lemmas.Option.{get_or_from_slice_get}
 use Rattle.buffer_ring.specs.Kept.{Kept}
 use Rattle.ca_stage.specs.Stage.{no_data}
 use Rattle.period_engine.specs.declared.entry.StreamEntry.{StreamEntry}
+use Rattle.service_board.specs.Lookups.{is_entry_of}
 use Rattle.service_core.specs.Core.{core_data, core_datas}
-use Rattle.service_core.specs.Lookups.{is_entry_of}
 use Rattle.service_core.specs.declared.both_ends.BothEnds.{BothEnds}
+use Rattle.service_board.proofs.Finding.{found_at, none_at}
 use Rattle.service_core.proofs.EntryData.{data_found}
-use Rattle.service_core.proofs.Finding.{found_at, none_at}
 
 module _ {F : Type 0} (kept : F → Kept) (entries : List (StreamEntry (BothEnds F))) (client : ℕ) where
   pub lease_there : (at : ℕ) (e : StreamEntry (BothEnds F)) → Some at ≡ position (is_entry_of client) entries →

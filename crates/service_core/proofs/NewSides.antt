@@ -11,14 +11,14 @@ use Rattle.buffer_ring.specs.Kept.{Kept}
 use Rattle.client_state.specs.declared.side.ClientSide.{ClientSide}
 use Rattle.ca_stage.specs.Stage.{no_data}
 use Rattle.period_engine.specs.declared.entry.StreamEntry.{StreamEntry}
-use Rattle.service_core.specs.declared.board.Board.{Board}
+use Rattle.service_board.specs.declared.board.Board.{Board}
+use Rattle.service_board.specs.declared.opening.Opening.{Opening as Asked}
+use Rattle.service_board.specs.declared.opening.OpeningPlan.{OpeningPlan}
+use Rattle.service_board.specs.declared.payload.Payload.{Payload}
+use Rattle.service_board.specs.Lookups.{is_entry_of}
+use Rattle.service_board.specs.Openings.{Enters, new_entry}
 use Rattle.service_core.specs.declared.both_ends.BothEnds.{BothEnds}
-use Rattle.service_core.specs.declared.opening.Opening.{Opening as Asked}
-use Rattle.service_core.specs.declared.opening.OpeningPlan.{OpeningPlan}
-use Rattle.service_core.specs.declared.payload.Payload.{Payload}
 use Rattle.service_core.specs.Core.{AreNewEnds, HasSide, HaveSides, IsFresh, core_data, core_datas, new_side}
-use Rattle.service_core.specs.Lookups.{is_entry_of}
-use Rattle.service_core.specs.Openings.{Enters, new_entry}
 use Rattle.service_core.proofs.CoreSteps.{all_by, each_of}
 use Rattle.service_core.proofs.EntryData.{data_found}
 

@@ -13,12 +13,12 @@ use Rattle.ca_stage.specs.Tally.{Tally}
 use Rattle.period_engine.specs.declared.entry.StreamEntry.{StreamEntry}
 use Rattle.period_engine.specs.Added.{Threads}
 use Rattle.period_engine.specs.Entries.{IsRested, stream_with, streams_of}
-use Rattle.service_core.specs.Board.{book_state, playhead_of}
-use Rattle.service_core.specs.InOrder.{Belongs, InOrder}
+use Rattle.service_board.specs.Board.{book_state, playhead_of}
+use Rattle.service_board.specs.InOrder.{Belongs, InOrder}
+use Rattle.service_board.specs.declared.board.Board.{Board}
 use Rattle.service_core.specs.Core.{HasSide, HaveSides, IsLooked, LooksAround, core_data, core_datas, core_state}
-use Rattle.service_core.specs.declared.board.Board.{Board}
 use Rattle.service_core.specs.declared.both_ends.BothEnds.{BothEnds}
-use Rattle.service_core.proofs.StreamMoves.{belongs_kept}
+use Rattle.service_board.proofs.StreamMoves.{belongs_kept}
 use Rattle.service_core.proofs.DataEntries.{looked_rested, looked_side, looked_stream, same_but_store}
 
 -- an entry was looked at, and what it has was added

@@ -29,7 +29,7 @@ use Rattle.ca_machine.specs.Periods.{
 }
 use Rattle.ca_machine.proofs.LiveClients.{gone_left}
 use Rattle.ca_machine.proofs.ClosesOfClients.{closes_are}
-use Rattle.service_core.specs.Control.{HasCounts}
+use Rattle.service_core.specs.Counting.{HasCounts}
 use Rattle.service_core.proofs.TallyFalls.{
   closes_count,
   failed_counts,

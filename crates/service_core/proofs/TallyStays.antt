@@ -59,7 +59,7 @@ use Rattle.ca_machine.specs.Streams.{
 }
 use Rattle.ca_machine.specs.Data.{get_buffer_plan, release_buffer_plan, frames_released}
 use Rattle.ca_machine.specs.Step.{call_plan, device_plan}
-use Rattle.service_core.specs.Control.{IsPlainCall}
+use Rattle.service_board.specs.Calls.{IsPlainCall}
 use Rattle.service_core.proofs.EventsFall.{IsControlCall}
 
 -- an outcome leaves the tally, and so does a plan, whatever it is answered

@@ -12,10 +12,10 @@ use Rattle.ca_stage.proofs.MapTallies.{sum_alike, sum_map}
 use Rattle.ca_machine.specs.View.{MachineView}
 use Rattle.period_engine.specs.declared.entry.StreamEntry.{StreamEntry}
 use Rattle.period_engine.specs.Entries.{AreInOrder, stream_of, streams_of}
+use Rattle.service_board.specs.declared.board.Board.{Board}
 use Rattle.service_core.specs.Core.{LooksAround, core_data, core_datas, core_state}
 use Rattle.service_core.specs.Service.{IsCore, core_view, tally_of}
 use Rattle.service_core.specs.Totals.{Reports, words_in}
-use Rattle.service_core.specs.declared.board.Board.{Board}
 use Rattle.service_core.specs.declared.both_ends.BothEnds.{BothEnds}
 use Rattle.service_core.specs.declared.tally.Tally.{Tally as Counts}
 use Rattle.service_core.proofs.EntryData.{data_found, each_entry, entry_at}

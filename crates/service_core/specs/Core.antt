@@ -38,10 +38,10 @@ use Rattle.ca_machine.specs.View.{AnswersBy, outside}
 use Rattle.ca_machine.specs.Data.{side_of}
 use Rattle.period_engine.specs.declared.entry.StreamEntry.{StreamEntry}
 use Rattle.period_engine.specs.Entries.{stream_with}
-use Rattle.service_core.specs.Board.{state_of}
+use Rattle.service_board.specs.Board.{state_of}
+use Rattle.service_board.specs.declared.board.Board.{Board}
+use Rattle.service_board.specs.declared.opening.OpeningPlan.{OpeningPlan}
 use Rattle.service_core.specs.Putting.{TookMore}
-use Rattle.service_core.specs.declared.board.Board.{Board}
-use Rattle.service_core.specs.declared.opening.OpeningPlan.{OpeningPlan}
 use Rattle.service_core.specs.declared.both_ends.BothEnds.{BothEnds}
 
 -- the data of an entry's client: the frames of its store, and what its side counts and leases

@@ -11,9 +11,9 @@ use Rattle.ca_machine.specs.SharedRows.{client_rows, data_call_rows}
 use Rattle.ca_machine.specs.Data.{data_rows}
 use Rattle.period_engine.specs.declared.entry.StreamEntry.{StreamEntry}
 use Rattle.period_engine.specs.Entries.{stream_of}
-use Rattle.service_core.specs.Board.{state_of}
-use Rattle.service_core.specs.Lookups.{Says, client_call_rows}
-use Rattle.service_core.specs.declared.board.Board.{Board}
+use Rattle.service_board.specs.Board.{state_of}
+use Rattle.service_board.specs.Lookups.{Says, client_call_rows}
+use Rattle.service_board.specs.declared.board.Board.{Board}
 
 -- the rows of a data call
 abbrev pub all_data_rows : ℕ → ℕ → DataCall → State → List (Row Hr)

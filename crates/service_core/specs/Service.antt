@@ -11,9 +11,9 @@ use Rattle.ca_machine.specs.State.{State}
 use Rattle.ca_machine.specs.Plan.{Plan}
 use Rattle.ca_machine.specs.Step.{event_connection, event_kind, event_tag}
 use Rattle.ca_machine.specs.View.{AnswersBy, MachineView, outside}
+use Rattle.service_board.specs.InOrder.{InOrder}
+use Rattle.service_board.specs.declared.board.Board.{Board}
 use Rattle.service_core.specs.Core.{HaveSides, core_state}
-use Rattle.service_core.specs.InOrder.{InOrder}
-use Rattle.service_core.specs.declared.board.Board.{Board}
 use Rattle.service_core.specs.declared.both_ends.BothEnds.{BothEnds}
 use Rattle.service_core.specs.declared.tally.Tally.{Tally as Counts}
 

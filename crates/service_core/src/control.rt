@@ -5,17 +5,20 @@ ghost use Rattle.ca_machine.specs.Data.{get_buffer_plan, get_current_padding_pla
 ghost use Rattle.ca_machine.specs.Periods.{period_plan};
 ghost use Rattle.ca_machine.specs.Step.{call_plan, device_plan};
 ghost use Rattle.ca_machine.specs.Streams.{reset_plan};
-ghost use Rattle.service_core.specs.Answers.{code_of, payload_of};
-ghost use Rattle.service_core.specs.Control.{IsPlainCall};
-ghost use Rattle.service_core.specs.Openings.{opening_plan};
+ghost use Rattle.service_board.specs.Answers.{code_of, payload_of};
+ghost use Rattle.service_board.specs.Calls.{IsPlainCall};
+ghost use Rattle.service_board.specs.Openings.{opening_plan};
 ghost use Rattle.service_core.specs.Service.{AnswersPlan};
 
+use crate::Core;
+use crate::counting::{counted_hangup, counted_period, counted_release, counted_reset};
+use crate::data::{get_buffer, get_current_padding, release_buffer};
 use crate::new_ends::new_ends;
-use crate::{Core, Opening, Payload};
 use buffer_ring::FrameStore;
 use ca_base::{ClientNo, ConnNo, EndpointNo, Hr, Text};
 use ca_model::{Call, DeviceEvent};
 use device_io::Devices;
+use service_board::{Opening, Payload};
 
 impl<D: Devices, F: FrameStore> Core<D, F> {
     /// A connection opens.
@@ -31,7 +34,7 @@ impl<D: Devices, F: FrameStore> Core<D, F> {
         ensures { AnswersPlan D.faults D.told (λ st. hangup_plan st conn.0)
             (code_of result) (payload_of result) self.old self.new }
     {
-        let (answer, dropped) = self.board.counted_hangup(conn);
+        let (answer, dropped) = counted_hangup(&mut self.board, conn);
         self.tally.add_dropped(dropped);
         answer
     }
@@ -41,7 +44,7 @@ impl<D: Devices, F: FrameStore> Core<D, F> {
         ensures { AnswersPlan D.faults D.told (λ st. release_plan st conn.0 client.0)
             (code_of result) (payload_of result) self.old self.new }
     {
-        let (answer, dropped) = self.board.counted_release(conn, client);
+        let (answer, dropped) = counted_release(&mut self.board, conn, client);
         self.tally.add_dropped(dropped);
         answer
     }
@@ -51,7 +54,7 @@ impl<D: Devices, F: FrameStore> Core<D, F> {
         ensures { AnswersPlan D.faults D.told (λ st. reset_plan st conn.0 client.0)
             (code_of result) (payload_of result) self.old self.new }
     {
-        let (answer, reset) = self.board.counted_reset(conn, client);
+        let (answer, reset) = counted_reset(&mut self.board, conn, client);
         self.tally.add_reset(reset);
         answer
     }
@@ -71,7 +74,7 @@ impl<D: Devices, F: FrameStore> Core<D, F> {
         ensures { AnswersPlan D.faults D.told (λ st. get_current_padding_plan st conn.0 client.0)
             (code_of result) (payload_of result) self.old self.new }
     {
-        self.board.get_current_padding(conn, client)
+        get_current_padding(&mut self.board, conn, client)
     }
 
     /// IAudioRenderClient::GetBuffer.
@@ -79,7 +82,7 @@ impl<D: Devices, F: FrameStore> Core<D, F> {
         ensures { AnswersPlan D.faults D.told (λ st. get_buffer_plan st conn.0 client.0 frames)
             (code_of result) (payload_of result) self.old self.new }
     {
-        self.board.get_buffer(conn, client, frames)
+        get_buffer(&mut self.board, conn, client, frames)
     }
 
     /// IAudioRenderClient::ReleaseBuffer.
@@ -95,8 +98,7 @@ impl<D: Devices, F: FrameStore> Core<D, F> {
             (λ st. release_buffer_plan st conn.0 client.0 frames flags bytes.now)
             (code_of result) (payload_of result) self.old self.new }
     {
-        self.board
-            .release_buffer(conn, client, frames, flags, bytes)
+        release_buffer(&mut self.board, conn, client, frames, flags, bytes)
     }
 
     /// A call that asks for no memory, needs nothing of the client's side, and gives no frame a fate.
@@ -151,7 +153,7 @@ impl<D: Devices, F: FrameStore> Core<D, F> {
         ensures { AnswersPlan D.faults D.told (λ st. period_plan st e.0)
             (code_of result) (payload_of result) self.old self.new }
     {
-        let (answer, taken) = self.board.counted_period(e);
+        let (answer, taken) = counted_period(&mut self.board, e);
         self.tally.take(&answer, taken);
         answer
     }

@@ -9,18 +9,19 @@ ghost use Rattle.ca_stage.specs.Tally.{Tally};
 ghost use Rattle.ca_machine.specs.Data.{frames_released, get_buffer_plan, get_current_padding_plan};
 ghost use Rattle.ca_machine.specs.Data.{release_buffer_plan};
 ghost use Rattle.period_engine.specs.Entries.{FitsStore};
-ghost use Rattle.service_core.specs.Answers.{code_of, payload_of};
+ghost use Rattle.service_board.specs.Answers.{code_of, payload_of};
+ghost use Rattle.service_board.specs.InOrder.{InOrder};
 ghost use Rattle.service_core.specs.Core.{Goes, HasSide, HaveSides, IsLooked, IsTouched, Releases, seen_in};
 ghost use Rattle.service_core.specs.DataCalls.{FindsEntry, RefusesData};
-ghost use Rattle.service_core.specs.InOrder.{InOrder};
 
+use crate::BothEnds;
 use crate::putting::put_released;
-use crate::{Board, BothEnds, Payload};
 use buffer_ring::FrameStore;
 use ca_base::{ClientNo, ConnNo, Hr};
 use client_state::{DataCall, Verdict, data_check};
 use device_io::Devices;
 use period_engine::StreamEntry;
+use service_board::{Board, Payload};
 
 /// Takes one look at an entry's store, and checks a data call: the code of its first row that holds, or else how many
 /// words are there.
@@ -90,68 +91,79 @@ fn release<F: FrameStore>(
     Ok(())
 }
 
-impl<D: Devices, F: FrameStore> Board<D, BothEnds<F>> {
-    /// The place of the entry of a data call's client.
-    fn data_place(&self, conn: ConnNo, client: ClientNo) -> Result<usize, Hr>
-        ensures refused { IfErr result (RefusesData conn.0 client.0 self.now) }
-        ensures found { IfOk result (FindsEntry conn.0 client.0 self.now) }
-    {
-        self.live_client(conn, client)?;
-        match self.entry_place(client) {
-            Some(at) => Ok(at),
-            None => Err(Hr::NOT_INITIALIZED),
-        }
+/// The place of the entry of a data call's client.
+fn data_place<D, F: FrameStore>(
+    board: &Board<D, BothEnds<F>>,
+    conn: ConnNo,
+    client: ClientNo,
+) -> Result<usize, Hr>
+    ensures refused { IfErr result (RefusesData conn.0 client.0 board.now) }
+    ensures found { IfOk result (FindsEntry conn.0 client.0 board.now) }
+{
+    board.live_client(conn, client)?;
+    match board.entry_place(client) {
+        Some(at) => Ok(at),
+        None => Err(Hr::NOT_INITIALIZED),
     }
+}
 
-    /// IAudioClient::GetCurrentPadding: the frames that are pending.
-    pub fn get_current_padding(&mut self, conn: ConnNo, client: ClientNo) -> Result<Payload, Hr>
-        requires order { InOrder (λ ends. F.state ends.store) self.old }
-        requires sides { HaveSides F.kept self.old }
-        ensures goes { (tally : Tally) → Goes D.faults D.told F.kept
-            (λ st. get_current_padding_plan st conn.0 client.0) (code_of result) (payload_of result) tally
-            self.old self.new }
-        ensures order { InOrder (λ ends. F.state ends.store) self.new }
-        ensures sides { HaveSides F.kept self.new }
-    {
-        let at = self.data_place(conn, client)?;
-        let words = check(&mut self.entries[at], &DataCall::Padding)?;
-        Ok(Payload::Number(words))
-    }
+/// IAudioClient::GetCurrentPadding: the frames that are pending.
+pub fn get_current_padding<D: Devices, F: FrameStore>(
+    board: &mut Board<D, BothEnds<F>>,
+    conn: ConnNo,
+    client: ClientNo,
+) -> Result<Payload, Hr>
+    requires order { InOrder (λ ends. F.state ends.store) board.old }
+    requires sides { HaveSides F.kept board.old }
+    ensures goes { (tally : Tally) → Goes D.faults D.told F.kept
+        (λ st. get_current_padding_plan st conn.0 client.0) (code_of result) (payload_of result) tally
+        board.old board.new }
+    ensures order { InOrder (λ ends. F.state ends.store) board.new }
+    ensures sides { HaveSides F.kept board.new }
+{
+    let at = data_place(board, conn, client)?;
+    let words = check(&mut board.entries[at], &DataCall::Padding)?;
+    Ok(Payload::Number(words))
+}
 
-    /// IAudioRenderClient::GetBuffer: leases so many frames.
-    pub fn get_buffer(&mut self, conn: ConnNo, client: ClientNo, frames: u32) -> Result<Payload, Hr>
-        requires order { InOrder (λ ends. F.state ends.store) self.old }
-        requires sides { HaveSides F.kept self.old }
-        ensures goes { (tally : Tally) → Goes D.faults D.told F.kept
-            (λ st. get_buffer_plan st conn.0 client.0 frames) (code_of result) (payload_of result) tally
-            self.old self.new }
-        ensures order { InOrder (λ ends. F.state ends.store) self.new }
-        ensures sides { HaveSides F.kept self.new }
-    {
-        let at = self.data_place(conn, client)?;
-        lease(&mut self.entries[at], frames)?;
-        Ok(Payload::Nothing)
-    }
+/// IAudioRenderClient::GetBuffer: leases so many frames.
+pub fn get_buffer<D: Devices, F: FrameStore>(
+    board: &mut Board<D, BothEnds<F>>,
+    conn: ConnNo,
+    client: ClientNo,
+    frames: u32,
+) -> Result<Payload, Hr>
+    requires order { InOrder (λ ends. F.state ends.store) board.old }
+    requires sides { HaveSides F.kept board.old }
+    ensures goes { (tally : Tally) → Goes D.faults D.told F.kept
+        (λ st. get_buffer_plan st conn.0 client.0 frames) (code_of result) (payload_of result) tally
+        board.old board.new }
+    ensures order { InOrder (λ ends. F.state ends.store) board.new }
+    ensures sides { HaveSides F.kept board.new }
+{
+    let at = data_place(board, conn, client)?;
+    lease(&mut board.entries[at], frames)?;
+    Ok(Payload::Nothing)
+}
 
-    /// IAudioRenderClient::ReleaseBuffer: the frames of these bytes, or silent ones, are pending from now on.
-    pub fn release_buffer(
-        &mut self,
-        conn: ConnNo,
-        client: ClientNo,
-        frames: u32,
-        flags: u32,
-        bytes: &[u8],
-    ) -> Result<Payload, Hr>
-        requires order { InOrder (λ ends. F.state ends.store) self.old }
-        requires sides { HaveSides F.kept self.old }
-        ensures goes { (tally : Tally) → Goes D.faults D.told F.kept
-            (λ st. release_buffer_plan st conn.0 client.0 frames flags bytes.now) (code_of result)
-            (payload_of result) tally self.old self.new }
-        ensures order { InOrder (λ ends. F.state ends.store) self.new }
-        ensures sides { HaveSides F.kept self.new }
-    {
-        let at = self.data_place(conn, client)?;
-        release(&mut self.entries[at], frames, flags, bytes)?;
-        Ok(Payload::Nothing)
-    }
+/// IAudioRenderClient::ReleaseBuffer: the frames of these bytes, or silent ones, are pending from now on.
+pub fn release_buffer<D: Devices, F: FrameStore>(
+    board: &mut Board<D, BothEnds<F>>,
+    conn: ConnNo,
+    client: ClientNo,
+    frames: u32,
+    flags: u32,
+    bytes: &[u8],
+) -> Result<Payload, Hr>
+    requires order { InOrder (λ ends. F.state ends.store) board.old }
+    requires sides { HaveSides F.kept board.old }
+    ensures goes { (tally : Tally) → Goes D.faults D.told F.kept
+        (λ st. release_buffer_plan st conn.0 client.0 frames flags bytes.now) (code_of result)
+        (payload_of result) tally board.old board.new }
+    ensures order { InOrder (λ ends. F.state ends.store) board.new }
+    ensures sides { HaveSides F.kept board.new }
+{
+    let at = data_place(board, conn, client)?;
+    release(&mut board.entries[at], frames, flags, bytes)?;
+    Ok(Payload::Nothing)
 }

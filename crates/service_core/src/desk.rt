@@ -3,19 +3,17 @@
 ghost use Rattle.std.specs.Prelude.{◌≡◌, ◌≤◌, [], length};
 ghost use Rattle.ca_machine.specs.Step.{plan};
 ghost use Rattle.ca_machine.specs.View.{AnswersEvent};
-ghost use Rattle.service_core.specs.Answers.{code_of, payload_of};
+ghost use Rattle.service_board.specs.Answers.{code_of, payload_of};
 ghost use Rattle.service_core.specs.Service.{AnswersPlan, HasHead, HasSameHead};
 
-use crate::{Core, Payload};
+use crate::Core;
 use buffer_ring::FrameStore;
 use ca_base::values::{KIND_CALL, KIND_DEVICE, KIND_HANGUP, KIND_OPEN, KIND_PERIOD};
 use ca_base::{Hr, NoMemory};
 use ca_model::{Event, Reply};
 use call_wire::Desk;
 use device_io::Devices;
-
-/// The longest payload of a reply, in bytes: a format's two bytes of length, and its 40 bytes.
-pub const REPLY_ROOM: usize = 42;
+use service_board::{Payload, REPLY_ROOM};
 
 /// Begins the reply to an event: its kind, its connection and its tag.
 fn begin(ev: &Event, out: &mut Reply)

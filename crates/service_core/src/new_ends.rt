@@ -6,11 +6,11 @@ ghost use Rattle.ca_base.specs.declared.limits.TheConstants.{MAX_STORE_WORDS, SH
 ghost use Rattle.wave_format.specs.Format.{IsValid, frames_of_time};
 ghost use Rattle.service_core.specs.Core.{AreNewEnds, new_side};
 
-use crate::opening::shared_period;
-use crate::{BothEnds, OpeningPlan};
+use crate::BothEnds;
 use buffer_ring::FrameStore;
 use ca_base::Dir;
 use client_state::ClientSide;
+use service_board::{OpeningPlan, shared_period};
 use std::alloc::Global;
 
 /// The client's side of a stream that is opened: nothing was leased or released.

@@ -3,13 +3,14 @@
 ghost use Rattle.std.specs.Prelude.{◌≡◌, ◌≤◌, length};
 ghost use Rattle.std.specs.List.{AllZip, sum_by};
 ghost use Rattle.ca_base.specs.declared.limits.TheConstants.{CLIENTS};
+ghost use Rattle.service_board.specs.InOrder.{InOrder};
 ghost use Rattle.service_core.specs.Core.{HaveSides, IsLooked, LooksAround, open_words};
-ghost use Rattle.service_core.specs.InOrder.{InOrder};
 
-use crate::{Board, BothEnds};
+use crate::BothEnds;
 use buffer_ring::FrameStore;
 use ca_base::Gate;
 use period_engine::StreamEntry;
+use service_board::Board;
 
 /// How many words an entry's store has, if its stream is open.
 fn words_in<F: FrameStore>(entry: &mut StreamEntry<BothEnds<F>>) -> u32
@@ -35,13 +36,11 @@ fn words_in_all<F: FrameStore>(all: &mut [StreamEntry<BothEnds<F>>]) -> u64
     sum
 }
 
-impl<D, F: FrameStore> Board<D, BothEnds<F>> {
-    /// How many frames are pending in open streams.
-    pub fn pending(&mut self) -> u64
-        requires { InOrder (λ ends. F.state ends.store) self.old }
-        ensures count { result ≡ sum_by (open_words F.kept) self.old.entries.items }
-        ensures looked { LooksAround F.kept self.old self.new }
-    {
-        words_in_all(&mut self.entries)
-    }
+/// How many frames are pending in open streams.
+pub fn pending<D, F: FrameStore>(board: &mut Board<D, BothEnds<F>>) -> u64
+    requires { InOrder (λ ends. F.state ends.store) board.old }
+    ensures count { result ≡ sum_by (open_words F.kept) board.old.entries.items }
+    ensures looked { LooksAround F.kept board.old board.new }
+{
+    words_in_all(&mut board.entries)
 }

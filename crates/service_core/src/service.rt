@@ -1,9 +1,10 @@
 //! The service in one thread.
 
-use crate::{Board, BothEnds, Tally};
+use crate::{BothEnds, Tally};
 use buffer_ring::FrameStore;
 use ca_base::NoMemory;
 use device_io::Devices;
+use service_board::Board;
 use std::alloc::Global;
 use std::marker::Model;
 

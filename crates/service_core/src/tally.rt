@@ -2,11 +2,11 @@
 
 ghost use Rattle.std.specs.Prelude.{◌≡◌};
 ghost use Rattle.ca_stage.specs.Tally.{counted};
-ghost use Rattle.service_core.specs.Control.{after_taking};
+ghost use Rattle.service_core.specs.Counting.{after_taking};
 ghost use Rattle.service_core.specs.Service.{tally_of};
 
-use crate::Payload;
 use ca_base::Hr;
+use service_board::Payload;
 
 /// How many frames were rendered, reset and dropped. Each count saturates.
 #[derive(Clone, Copy, Debug, PartialEq, Eq)]

@@ -3,14 +3,15 @@
 ghost use Rattle.std.specs.Prelude.{◌≡◌, ◌≤◌, length};
 ghost use Rattle.std.specs.List.{AllZip, sum_by};
 ghost use Rattle.ca_base.specs.declared.limits.TheConstants.{CLIENTS};
+ghost use Rattle.service_board.specs.InOrder.{InOrder};
 ghost use Rattle.service_core.specs.Core.{IsLooked, LooksAround};
-ghost use Rattle.service_core.specs.InOrder.{InOrder};
 ghost use Rattle.service_core.specs.Totals.{Reports, words_in};
 
-use crate::{Board, BothEnds, Core};
+use crate::{BothEnds, Core};
 use buffer_ring::FrameStore;
 use device_io::Devices;
 use period_engine::StreamEntry;
+use service_board::Board;
 
 /// How many frames were ever released: those that were rendered, reset and dropped, and those that wait in buffers.
 /// Each count saturates.

@@ -1,6 +1,6 @@
 use Rattle.std.proofs.Common.{◌≤◌, length, subst, sym}
 use Rattle.ca_base.specs.declared.limits.TheConstants.{CLIENTS}
-use Rattle.service_core.proofs.Fewer.{are_entries}
+use Rattle.service_board.proofs.Fewer.{are_entries}
 use Rattle.service_core.proofs.totals.waiting.Goals as goal
 
 pub words_of_all-requires : goal.words_of_all-requires

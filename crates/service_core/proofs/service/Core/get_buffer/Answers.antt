@@ -1,5 +1,5 @@
 use Rattle.ca_machine.specs.Data.{get_buffer_plan}
-use Rattle.service_core.specs.Answers.{code_of, payload_of}
+use Rattle.service_board.specs.Answers.{code_of, payload_of}
 use Rattle.service_core.specs.Service.{tally_of}
 use Rattle.service_core.proofs.CoreAnswers.{answers_viewed}
 use Rattle.service_core.proofs.CoreCounts.{goes_still}
@@ -10,10 +10,10 @@ pub returns : goal.returns
 returns g c =
     answers_viewed g.D.Devices.faults g.D.Devices.told g.F.FrameStore.kept
     (λ st. get_buffer_plan st c.args.conn.0 c.args.client.0 c.args.frames)
-    (code_of c.get_buffer.result) (payload_of c.get_buffer.result) c.self.inside.board c.get_buffer.new.self
+    (code_of c.get_buffer.result) (payload_of c.get_buffer.result) c.self.inside.board c.get_buffer.new.board
     c.self.inside.tally c.self.inside.tally c.args.self.now c.self.view_is
     (goes_still g.D.Devices.faults g.D.Devices.told g.F.FrameStore.kept
     (λ st. get_buffer_plan st c.args.conn.0 c.args.client.0 c.args.frames)
     (code_of c.get_buffer.result) (payload_of c.get_buffer.result) (tally_of c.self.inside.tally) c.self.inside.board
-    c.get_buffer.new.self (c.get_buffer.ensures.goes (tally_of c.self.inside.tally))
+    c.get_buffer.new.board (c.get_buffer.ensures.goes (tally_of c.self.inside.tally))
     (λ st. tally_of_lease st c.args.conn.0 c.args.client.0 c.args.frames))

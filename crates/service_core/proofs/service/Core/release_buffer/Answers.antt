@@ -1,5 +1,5 @@
 use Rattle.ca_machine.specs.Data.{release_buffer_plan}
-use Rattle.service_core.specs.Answers.{code_of, payload_of}
+use Rattle.service_board.specs.Answers.{code_of, payload_of}
 use Rattle.service_core.specs.Service.{tally_of}
 use Rattle.service_core.proofs.CoreAnswers.{answers_viewed}
 use Rattle.service_core.proofs.CoreCounts.{goes_still}
@@ -11,12 +11,12 @@ returns g c =
     answers_viewed g.D.Devices.faults g.D.Devices.told g.F.FrameStore.kept
     (λ st. release_buffer_plan st c.args.conn.0 c.args.client.0 c.args.frames c.args.flags
     c.args.bytes.now)
-    (code_of c.release_buffer.result) (payload_of c.release_buffer.result) c.self.inside.board c.release_buffer.new.self
+    (code_of c.release_buffer.result) (payload_of c.release_buffer.result) c.self.inside.board c.release_buffer.new.board
     c.self.inside.tally c.self.inside.tally c.args.self.now c.self.view_is
     (goes_still g.D.Devices.faults g.D.Devices.told g.F.FrameStore.kept
     (λ st. release_buffer_plan st c.args.conn.0 c.args.client.0 c.args.frames c.args.flags
     c.args.bytes.now)
     (code_of c.release_buffer.result) (payload_of c.release_buffer.result) (tally_of c.self.inside.tally)
     c.self.inside.board
-    c.release_buffer.new.self (c.release_buffer.ensures.goes (tally_of c.self.inside.tally))
+    c.release_buffer.new.board (c.release_buffer.ensures.goes (tally_of c.self.inside.tally))
     (λ st. tally_of_release st c.args.conn.0 c.args.client.0 c.args.frames c.args.flags c.args.bytes.now))

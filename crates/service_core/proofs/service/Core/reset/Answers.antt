@@ -1,6 +1,6 @@
 use Rattle.std.proofs.Common.{sym, ap, subst, arith}
 use Rattle.ca_machine.specs.Streams.{reset_plan}
-use Rattle.service_core.specs.Answers.{code_of, payload_of}
+use Rattle.service_board.specs.Answers.{code_of, payload_of}
 use Rattle.service_core.specs.Core.{GoesTo}
 use Rattle.service_core.specs.Service.{tally_of}
 use Rattle.service_core.proofs.CoreAnswers.{answers_viewed, counts_fit}
@@ -11,12 +11,12 @@ returns g c =
     answers_viewed g.D.Devices.faults g.D.Devices.told g.F.FrameStore.kept
     (λ st. reset_plan st c.args.conn.0 c.args.client.0)
     (code_of c.counted_reset-answer.result.0) (payload_of c.counted_reset-answer.result.0) c.self.inside.board
-    c.counted_reset-answer.new.self
+    c.counted_reset-answer.new.board
     c.self.inside.tally c.add_reset.new.self c.args.self.now c.self.view_is
     (subst (λ t. GoesTo g.D.Devices.faults g.D.Devices.told g.F.FrameStore.kept
     (λ st. reset_plan st c.args.conn.0 c.args.client.0)
     (code_of c.counted_reset-answer.result.0) (payload_of c.counted_reset-answer.result.0)
     (tally_of c.self.inside.tally) t
-    c.self.inside.board c.counted_reset-answer.new.self) (sym (ap tally_of c.add_reset.ensures))
+    c.self.inside.board c.counted_reset-answer.new.board) (sym (ap tally_of c.add_reset.ensures))
     (c.counted_reset-answer.ensures.goes (tally_of c.self.inside.tally) (counts_fit c.self.inside.tally
     (omega arith, omega arith, omega arith))))

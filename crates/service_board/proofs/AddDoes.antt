@@ -1,0 +1,253 @@
+-- Add: the endpoint that is added, and the board with it.
+use Rattle.std.proofs.Common.{◌≡◌, ℕ, suc, ◌<◌, ◌≤◌, ◌==◌, List, [], ◌∷◌, ◌++◌, length, map, Bool, false}
+use Rattle.std.proofs.Common.{Option, Some, None, nat_le, refl, sym, ap, ap₂, ◌∙◌, subst, arith, if◌then◌else◌}
+use Rattle.std.specs.List.{All, AllByRecursion, AllZip, find}
+use Rattle.std.specs.Option.{option_map_or}
+use Rattle.std.specs.Vec.{vec_capacity}
+use Rattle.std.proofs.lemmas.Bool.{leb-false, or_from, or_parts}
+use Rattle.std.proofs.lemmas.Bool.Decides.{nat_tests}
+use Rattle.std.proofs.lemmas.List.{map-append}
+use Rattle.std.proofs.lemmas.List.Elements.{All-push, All-weaker, recursion_from_All}
+use Rattle.device_io.specs.DeviceLog.{DeviceLog}
+use Rattle.ca_base.specs.declared.codes.Hr.{Hr}
+use Rattle.ca_base.specs.declared.codes.TheConstants.Hr as hr
+use Rattle.ca_base.specs.declared.limits.TheConstants.{ENDPOINTS}
+use Rattle.buffer_ring.specs.declared.step.EndState.{EndState}
+use Rattle.buffer_ring.specs.declared.step.Step.{Step}
+use Rattle.ca_stage.specs.Stage.{BufferData, Playhead, no_data}
+use Rattle.ca_stage.specs.Moves.{added, after_moves, has_playhead, playhead_after, stream_after, with_added}
+use Rattle.ca_stage.specs.Order.{RisesFrom}
+use Rattle.ca_stage.specs.Tally.{Tally, no_tally}
+use Rattle.ca_stage.proofs.Lists.{find-append, first_of_two, map_same}
+use Rattle.ca_machine.specs.declared.state.Endpoint.{Endpoint}
+use Rattle.ca_machine.specs.State.{State, is_endpoint}
+use Rattle.ca_machine.specs.Plan.{Plan}
+use Rattle.ca_machine.specs.Plan.Answer.{found, out_of_memory}
+use Rattle.ca_machine.specs.Devices.{add_plan, add_rows, new_endpoint}
+use Rattle.ca_machine.specs.View.{AnswersBy, outside}
+use Rattle.period_engine.specs.declared.entry.StreamEntry.{StreamEntry}
+use Rattle.period_engine.specs.Entries.{streams_of}
+use Rattle.service_board.specs.Board.{playhead_of, stage_with, state_of}
+use Rattle.service_board.specs.Does.{AnyData, Does, Made, store_at}
+use Rattle.service_board.specs.InOrder.{Belongs, InOrder, IsBook, Seats, is_seat, next_at}
+use Rattle.service_board.specs.Lookups.{Says}
+use Rattle.service_board.specs.declared.board.Board.{Board}
+use Rattle.service_board.specs.declared.board.Seat.{Seat}
+use Rattle.service_board.proofs.Doing.{add_none, made_still}
+use Rattle.service_board.proofs.Offering.{answers_granted_by}
+use Rattle.service_board.proofs.Rows.{row_fails}
+
+-- a board whose stores stay goes on as a plan says
+pub stays_does : {D E : Type 0} (faults : D → ℕ) (told : D → Option (List DeviceLog))
+    (moves : E → List Step → E → Type 0) (stays : (a : E) → moves a [] a) (b new : Board D E)
+    (entries : new.entries.items ≡ b.entries.items) (plan : State → Plan) (result : Hr) (payload : List ℕ) →
+    ((datas : ℕ → BufferData) (tally : Tally) →
+    AnswersBy (state_of datas tally b) (plan (state_of datas tally b)) result payload (state_of datas tally new)
+    (outside faults told b.devices) (outside faults told new.devices)) →
+    Does faults told moves None AnyData b new plan result payload
+stays_does faults told moves stays b new entries plan result payload answers = record {
+  steps = λ client. [];
+  made = λ client.
+      subst (λ es. Made moves None [] (store_at client b.entries.items) (store_at client es)) (sym entries)
+      (made_still moves None stays (store_at client b.entries.items));
+  does = λ datas tally agrees knows. record { tally = tally; answers = answers datas tally };
+}
+
+-- numbers that rise, and a greater one behind them
+rises_push : (low n : ℕ) (ns : List ℕ) → RisesFrom low ns → low ≤ n → AllByRecursion (λ m. m < n) ns →
+    RisesFrom low (ns ++ n ∷ [])
+rises_push low n [] rises le below = (le, tt)
+rises_push low n (m ∷ ns) rises le below = (rises.0, rises_push (suc m) n ns rises.1 below.0 below.1)
+
+numbers_below : (n last : ℕ) (endpoints : List Endpoint) → last < n →
+    AllByRecursion (λ e. e.endpoint.0 ≤ last) endpoints →
+    AllByRecursion (λ m. m < n) (map (λ e. e.endpoint.0) endpoints)
+numbers_below n last [] lt all = tt
+numbers_below n last (e ∷ endpoints) lt all =
+    let le = all.0 in
+    (omega arith, numbers_below n last endpoints lt all.1)
+
+-- no seat has a greater number than the last one
+no_head : (n last : ℕ) (seats : List Seat) (endpoints : List Endpoint) → AllZip Seats seats endpoints → last < n →
+    AllByRecursion (λ e. e.endpoint.0 ≤ last) endpoints → has_playhead n (map playhead_of seats) ≡ false
+no_head n last [] [] h lt all = refl
+no_head n last (s ∷ seats) (e ∷ endpoints) h lt all =
+    let number = h.0.number in
+    let le = all.0 in
+    let other : (s.endpoint.0 == n) ≡ false = grind (arith, nat_tests) in
+    or_from (s.endpoint.0 == n) (has_playhead n (map playhead_of seats)) other
+    (no_head n last seats endpoints h.1 lt all.1)
+no_head n last [] (e ∷ endpoints) h lt all = absurd h
+no_head n last (s ∷ seats) [] h lt all = absurd h
+
+zip_push : (seats : List Seat) (endpoints : List Endpoint) (s : Seat) (e : Endpoint) → AllZip Seats seats endpoints →
+    Seats s e → AllZip Seats (seats ++ s ∷ []) (endpoints ++ e ∷ [])
+zip_push [] [] s e h fits = (fits, tt)
+zip_push (x ∷ seats) (y ∷ endpoints) s e h fits = (h.0, zip_push seats endpoints s e h.1 fits)
+zip_push [] (y ∷ endpoints) s e h fits = absurd h
+zip_push (x ∷ seats) [] s e h fits = absurd h
+
+-- what is found is found among more; and a next place doesn't fall
+still_found : {A : Type 0} (test : A → Bool) (xs : List A) (x more : A) → find test xs ≡ Some x →
+    find test (xs ++ more ∷ []) ≡ Some x
+still_found test xs x more e =
+    find-append test xs (more ∷ []) ∙ ap (λ o. first_of_two o (find test (more ∷ []))) e
+
+next_or : (o p : Option Seat) → option_map_or (λ s. s.next) o 0 ≤ option_map_or (λ s. s.next) (first_of_two o p) 0
+next_or None p = omega arith
+next_or (Some s) p = omega arith
+
+next_stays : (n : ℕ) (seats : List Seat) (s : Seat) → next_at n seats ≤ next_at n (seats ++ s ∷ [])
+next_stays n seats s =
+    subst (λ o. next_at n seats ≤ option_map_or (λ (t : Seat). t.next) o 0)
+    (sym (find-append (is_seat n) seats (s ∷ []))) (next_or (find (is_seat n) seats) (find (is_seat n) (s ∷ [])))
+
+-- ---- an endpoint is added
+
+module _ {D E : Type 0} (state : E → EndState) (b : Board D E) (order : InOrder state b) (number flow : ℕ)
+    (format name : List ℕ) (says : Says b (λ st. add_rows st number flow format name) None) where
+  -- there is room for an endpoint more, and its number is new
+  pub free_to_add : (length b.book.endpoints.items < ENDPOINTS) × (b.book.last_endpoint < number)
+  free_to_add =
+      let first = row_fails _ hr.E_NOTIMPL _ (says (λ client. no_data) no_tally) in
+      let second = row_fails _ hr.E_INVALIDARG _ first.1 in
+      let third = row_fails (nat_le ENDPOINTS (length b.book.endpoints.items)) hr.ENDPOINTS_FULL None second.1 in
+      let above = or_parts (nat_le number b.book.last_endpoint) _ second.0 in
+      (leb-false ENDPOINTS (length b.book.endpoints.items) third.0, leb-false number b.book.last_endpoint above.0)
+
+  below_number : AllByRecursion (λ e. e.endpoint.0 ≤ b.book.last_endpoint) b.book.endpoints.items
+  below_number =
+      recursion_from_All (λ (e : Endpoint). e.endpoint.0 ≤ b.book.last_endpoint) b.book.endpoints.items order.book.added
+
+  -- memory ran out
+  pub no_memory : (faults : D → ℕ) (told : D → Option (List DeviceLog)) (moves : E → List Step → E → Type 0)
+      (stays : (a : E) → moves a [] a) →
+      Does faults told moves None AnyData b b (λ st. add_plan st number flow format name) hr.E_OUTOFMEMORY []
+  no_memory faults told moves stays =
+      stays_does faults told moves stays b b refl (λ st. add_plan st number flow format name) hr.E_OUTOFMEMORY []
+      (λ datas tally.
+      answers_granted_by (state_of datas tally b) (add_plan (state_of datas tally b) number flow format name)
+      hr.E_OUTOFMEMORY [] (state_of datas tally b) (outside faults told b.devices) (outside faults told b.devices)
+      (out_of_memory ∷ []) (says datas tally) tt refl refl refl
+      (record { tells = add_none (told b.devices); counts = refl }))
+
+  module _ (new : Board D E) (endpoint : Endpoint) (seat : Seat)
+      (pushed : new.book.endpoints.items ≡ b.book.endpoints.items ++ endpoint ∷ [])
+      (seated : new.seats.items ≡ b.seats.items ++ seat ∷ [])
+      (endpoint_is : endpoint ≡ new_endpoint number format name)
+      (seat_is : playhead_of seat ≡ record { number = number; next = 0 })
+    where
+      abbrev pub added_board : Board D E
+      added_board = record b {
+        book = record (b.book) { endpoints = new.book.endpoints; last_endpoint = number };
+        seats = new.seats;
+      }
+
+      heads_are : map playhead_of new.seats.items
+          ≡ with_added (added number) (map (playhead_after (added number)) (map playhead_of b.seats.items))
+      heads_are =
+          let heads = map playhead_of b.seats.items in
+          let none =
+          no_head number b.book.last_endpoint b.seats.items b.book.endpoints.items order.seats free_to_add.1
+          below_number
+          in
+          ap (map playhead_of) seated
+          ∙ map-append playhead_of b.seats.items (seat ∷ [])
+          ∙ ap (λ (h : Playhead). heads ++ h ∷ []) seat_is
+          ∙ ap (λ c. if c then heads else heads ++ record { number = number; next = 0 } ∷ []) (sym none)
+          ∙ ap (with_added (added number)) (sym (map_same (playhead_after (added number)) (λ e. refl) heads))
+
+      stage_is : (datas : ℕ → BufferData) → stage_with datas new.seats.items b.entries.items
+          ≡ after_moves (stage_with datas b.seats.items b.entries.items) (added number ∷ [])
+      stage_is datas =
+          ap₂ (λ hs ss. record { playheads = hs; streams = ss }) heads_are
+          (sym (map_same (stream_after (added number)) (λ s. refl) (streams_of datas b.entries.items)))
+
+      pub add_does : (faults : D → ℕ) (told : D → Option (List DeviceLog)) (moves : E → List Step → E → Type 0)
+          (stays : (a : E) → moves a [] a) →
+          Does faults told moves None AnyData b added_board (λ st. add_plan st number flow format name) hr.S_OK []
+      add_does faults told moves stays =
+          stays_does faults told moves stays b added_board refl (λ st. add_plan st number flow format name) hr.S_OK []
+          (λ datas tally.
+          answers_granted_by (state_of datas tally b) (add_plan (state_of datas tally b) number flow format name)
+          hr.S_OK [] (state_of datas tally added_board) (outside faults told b.devices)
+          (outside faults told b.devices) (found ∷ []) (says datas tally) refl refl refl
+          (ap₂ (λ es stage. record (state_of datas tally b) {
+            endpoints = es;
+            last_endpoint = number;
+            stage = stage;
+          }) (pushed ∙ ap (λ (e : Endpoint). b.book.endpoints.items ++ e ∷ []) endpoint_is) (stage_is datas))
+          (record { tells = add_none (told b.devices); counts = refl }))
+
+      -- ---- the order of the board
+
+      number_is : endpoint.endpoint.0 ≡ number
+      number_is = ap (λ (e : Endpoint). e.endpoint.0) endpoint_is
+
+      still_belongs : (e : StreamEntry E) → Belongs b.book b.seats.items e → Belongs added_board.book new.seats.items e
+      still_belongs e h =
+          let before = h.position in
+          let rises = next_stays e.endpoint.0 b.seats.items seat in
+          let after : next_at e.endpoint.0 new.seats.items ≡ next_at e.endpoint.0 (b.seats.items ++ seat ∷ []) =
+          ap (next_at e.endpoint.0) seated in
+          record {
+            client = h.client;
+            live = h.live;
+            on = h.on;
+            endpoint = h.endpoint;
+            there =
+                ap (find (is_endpoint e.endpoint.0)) pushed
+                ∙ still_found (is_endpoint e.endpoint.0) b.book.endpoints.items h.endpoint endpoint h.there;
+            channels = h.channels;
+            gains = h.gains;
+            renders = h.renders;
+            position = omega arith;
+          }
+
+      added_book : vec_capacity new.book.endpoints ≡ vec_capacity b.book.endpoints → IsBook added_board.book
+      added_book capacity =
+          let old = order.book in
+          let above = free_to_add.1 in
+          record {
+            rooms = record {
+              connections = old.rooms.connections;
+              clients = old.rooms.clients;
+              endpoints = let room = old.rooms.endpoints in omega arith;
+              sessions = old.rooms.sessions;
+            };
+            clients = old.clients;
+            few_clients = old.few_clients;
+            made = old.made;
+            clients_made = old.clients_made;
+            endpoints =
+                subst (λ es. RisesFrom 0 (map (λ (e : Endpoint). e.endpoint.0) es)) (sym pushed)
+                (subst (RisesFrom 0)
+                (sym (map-append (λ (e : Endpoint). e.endpoint.0) b.book.endpoints.items (endpoint ∷ [])
+                ∙ ap (λ n. map (λ (e : Endpoint). e.endpoint.0) b.book.endpoints.items ++ n ∷ []) number_is))
+                (rises_push 0 number (map (λ (e : Endpoint). e.endpoint.0) b.book.endpoints.items) old.endpoints
+                (omega arith)
+                (numbers_below number b.book.last_endpoint b.book.endpoints.items above below_number)));
+            added =
+                subst (All (λ (e : Endpoint). e.endpoint.0 ≤ number)) (sym pushed)
+                (All-push (λ (e : Endpoint). e.endpoint.0 ≤ number) b.book.endpoints.items endpoint
+                (All-weaker (λ (e : Endpoint). e.endpoint.0 ≤ b.book.last_endpoint) (λ e. e.endpoint.0 ≤ number)
+                (λ e le. omega arith) b.book.endpoints.items old.added) (omega (arith, number_is)));
+            sessions_made = old.sessions_made;
+          }
+
+      pub added_order : vec_capacity new.book.endpoints ≡ vec_capacity b.book.endpoints →
+          vec_capacity new.seats ≡ vec_capacity b.seats → Seats seat endpoint → InOrder state added_board
+      added_order capacity seat_capacity fits = record {
+        order = order.order;
+        rested = order.rested;
+        belong =
+            All-weaker (Belongs b.book b.seats.items) (Belongs added_board.book new.seats.items) still_belongs
+            b.entries.items order.belong;
+        seats =
+            subst (λ ss. AllZip Seats ss new.book.endpoints.items) (sym seated)
+            (subst (AllZip Seats (b.seats.items ++ seat ∷ [])) (sym pushed)
+            (zip_push b.seats.items b.book.endpoints.items seat endpoint order.seats fits));
+        book = added_book capacity;
+        room = order.room;
+        seat_room = let room = order.seat_room in omega arith;
+      }

@@ -1,0 +1,98 @@
+-- Add: what its rows say of a board, and what it makes of one.
+use Rattle.std.proofs.Common.{◌≡◌, ℕ, ◌==◌, ◌||◌, nat_le, nat_lt, not, List, length}
+use Rattle.std.proofs.Common.{Bool, true, false, Option, Some, None, refl, sym}
+use Rattle.std.proofs.Common.{Result, Ok, Err, MatchResult, is_ok, is_some}
+use Rattle.std.specs.Str.{IsUtf8, is_utf8}
+use Rattle.std.proofs.lemmas.Str.{is_utf8-from_IsUtf8, IsUtf8-from_is_utf8}
+use Rattle.ca_base.specs.declared.codes.TheConstants.Hr as hr
+use Rattle.ca_base.specs.declared.limits.TheConstants.{ENDPOINTS}
+use Rattle.ca_base.specs.declared.values.TheConstants.{FLOW_CAPTURE}
+use Rattle.ca_base.specs.Rows.{first}
+use Rattle.wave_format.specs.declared.format.Format.{Format}
+use Rattle.wave_format.specs.declared.format.FormatFault.{FormatFault}
+use Rattle.wave_format.specs.Format.{fault_rows, format_at, spelled, unless_fault}
+use Rattle.ca_machine.specs.Devices.{add_rows}
+use Rattle.ca_machine.specs.Streams.{is_faulty}
+use Rattle.service_board.specs.Lookups.{Says}
+use Rattle.service_board.specs.declared.board.Board.{Board}
+use Rattle.service_board.proofs.Rows.{row_holds, row_passes}
+
+-- ---- texts
+
+fails : (bytes : List ℕ) (b : Bool) → is_utf8 bytes ≡ b → ¬ (IsUtf8 bytes) → false ≡ b
+fails bytes true e h = absurd (h (IsUtf8-from_is_utf8 bytes e))
+fails bytes false e h = refl
+
+-- a text is what is read as one
+pub text_by : {A B : Type 0} (P : A → Type 0) (Q : B → Type 0) (bytes : List ℕ) (r : Result A B) →
+    MatchResult r (λ s. P s × IsUtf8 bytes) (λ e. ¬ (IsUtf8 bytes) × Q e) → is_ok r ≡ is_utf8 bytes
+text_by P Q bytes (Ok s) h = sym (is_utf8-from_IsUtf8 bytes h.1)
+text_by P Q bytes (Err e) h = fails bytes (is_utf8 bytes) refl h.0
+
+-- ---- formats
+
+faulty_by : (o : Option ℕ) (format : Format) (fault : FormatFault) → Err fault ≡ unless_fault o format →
+    is_some o ≡ true
+faulty_by None format fault e = absurd cc
+faulty_by (Some number) format fault e = refl
+
+pub faulty : (bytes : List ℕ) (fault : FormatFault) → Err fault ≡ format_at bytes → is_faulty bytes ≡ true
+faulty bytes fault e = faulty_by (first (fault_rows bytes)) (spelled bytes) fault e
+
+read_by : (o : Option ℕ) (format read : Format) → unless_fault o format ≡ Ok read →
+    (is_some o ≡ false) × (read ≡ format)
+read_by None format read e = (refl, cc)
+read_by (Some number) format read e = absurd cc
+
+pub read_is : (bytes : List ℕ) (read : Format) → format_at bytes ≡ Ok read →
+    (is_faulty bytes ≡ false) × (read ≡ spelled bytes)
+read_is bytes read e = read_by (first (fault_rows bytes)) (spelled bytes) read e
+
+-- ---- the rows
+
+wrong_value : (a b f u : Bool) → (a || (b || u)) ≡ true → (a || (b || (f || u))) ≡ true
+wrong_value true b f u h = refl
+wrong_value false true f u h = refl
+wrong_value false false true u h = refl
+wrong_value false false false u h = h
+
+wrong_format : (a b f u : Bool) → f ≡ true → (a || (b || (f || u))) ≡ true
+wrong_format true b f u h = refl
+wrong_format false true f u h = refl
+wrong_format false false true u h = refl
+wrong_format false false false u h = absurd cc
+
+right_values : (a b f u : Bool) → (a || (b || u)) ≡ false → f ≡ false → (a || (b || (f || u))) ≡ false
+right_values true b f u h k = h
+right_values false true f u h k = h
+right_values false false true u h k = k
+right_values false false false u h k = h
+
+module _ {D E : Type 0} (b : Board D E) (number flow : ℕ) (format name : List ℕ)
+    (now : (not (length b.book.endpoints.items == 0) || flow == FLOW_CAPTURE) ≡ false) where
+  pub wrong_says : true ≡ (nat_le number b.book.last_endpoint || (nat_lt FLOW_CAPTURE flow || not (is_utf8 name))) →
+      Says b (λ st. add_rows st number flow format name) (Some hr.E_INVALIDARG)
+  wrong_says h datas tally =
+      row_passes _ hr.E_NOTIMPL _ now
+      (row_holds _ hr.E_INVALIDARG _
+      (wrong_value (nat_le number b.book.last_endpoint) (nat_lt FLOW_CAPTURE flow) (is_faulty format)
+      (not (is_utf8 name)) (sym h)))
+
+  pub faulty_says : (fault : FormatFault) → Err fault ≡ format_at format →
+      Says b (λ st. add_rows st number flow format name) (Some hr.E_INVALIDARG)
+  faulty_says fault e datas tally =
+      row_passes _ hr.E_NOTIMPL _ now
+      (row_holds _ hr.E_INVALIDARG _
+      (wrong_format (nat_le number b.book.last_endpoint) (nat_lt FLOW_CAPTURE flow) (is_faulty format)
+      (not (is_utf8 name)) (faulty format fault e)))
+
+  module _ (right : false ≡ (nat_le number b.book.last_endpoint || (nat_lt FLOW_CAPTURE flow || not (is_utf8 name))))
+      (read : Format) (spells : format_at format ≡ Ok read) where
+    pub free_says : nat_le ENDPOINTS (length b.book.endpoints.items) ≡ false →
+        Says b (λ st. add_rows st number flow format name) None
+    free_says h datas tally =
+        row_passes _ hr.E_NOTIMPL _ now
+        (row_passes _ hr.E_INVALIDARG _
+        (right_values (nat_le number b.book.last_endpoint) (nat_lt FLOW_CAPTURE flow) (is_faulty format)
+        (not (is_utf8 name)) (sym right) (read_is format read spells).0)
+        (row_passes _ hr.ENDPOINTS_FULL _ h refl))

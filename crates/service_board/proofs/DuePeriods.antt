@@ -1,0 +1,187 @@
+-- The endpoint and the seat of a period, and which row refuses a period.
+use Rattle.std.proofs.Common.{◌≡◌, ℕ, zero, suc, ◌+◌, ◌<◌, ◌≤◌, ◌==◌, nat_lt, not, List, [], ◌∷◌, length, map, Bool}
+use Rattle.std.proofs.Common.{true}
+use Rattle.std.proofs.Common.{false, cond, Option, Some, None, refl, sym, ap, ap₂, ◌∙◌, subst, arith, eqb-true, eq-eqb}
+use Rattle.std.proofs.Common.{if◌then◌else◌, get_or, slice_get}
+use Rattle.std.specs.List.{AllZip, find, position, position_or_len}
+use Rattle.std.specs.Option.{option_map, option_map_or}
+use Rattle.std.proofs.lemmas.List.Folds.{find_at}
+use Rattle.std.proofs.lemmas.Option.{cond_some, none-some, same_Some, get_or_from_slice_get, slice_get_within}
+use Rattle.std.proofs.lemmas.Bool.Decides.{nat_tests}
+use Rattle.ca_base.specs.declared.codes.TheConstants.Hr as hr
+use Rattle.ca_base.specs.declared.limits.TheConstants.{MAX_COUNT}
+use Rattle.ca_base.specs.declared.values.TheConstants.{STATE_ACTIVE}
+use Rattle.ca_base.specs.Rows.{first}
+use Rattle.ca_stage.specs.Stage.{BufferData, Playhead}
+use Rattle.ca_stage.specs.Fates.{next_of, place_of}
+use Rattle.ca_stage.specs.Tally.{Tally}
+use Rattle.ca_machine.specs.declared.state.Endpoint.{Endpoint}
+use Rattle.ca_machine.specs.State.{is_endpoint}
+use Rattle.ca_machine.specs.Periods.{period_frames, period_of, period_plan}
+use Rattle.service_board.specs.Board.{playhead_of, state_of}
+use Rattle.service_board.specs.Due.{FindsDue}
+use Rattle.service_board.specs.InOrder.{Seats, is_seat, next_at}
+use Rattle.service_board.specs.Lookups.{Says}
+use Rattle.service_board.specs.declared.board.Board.{Board}
+use Rattle.service_board.specs.declared.board.Seat.{Seat}
+use Rattle.service_board.proofs.Finding.{FoundAt, find_mapped, found_at, none_at}
+
+-- ---- the seat of an endpoint
+
+-- the seat that stands where an endpoint stands
+pub record SeatAt (seats : List Seat) (at : ℕ) (e : Endpoint) : Type 0 where
+  pub seat : Seat
+  pub here : slice_get seats at ≡ Some seat
+  pub fits : Seats seat e
+
+pub seat_at : (seats : List Seat) (endpoints : List Endpoint) (at : ℕ) (e : Endpoint) → AllZip Seats seats endpoints →
+    slice_get endpoints at ≡ Some e → SeatAt seats at e
+seat_at [] [] at e h here = absurd (none-some e here)
+seat_at (s ∷ seats) (x ∷ endpoints) zero e h here =
+    record { seat = s; here = refl; fits = subst (Seats s) (same_Some x e here) h.0 }
+seat_at (s ∷ seats) (x ∷ endpoints) (suc at) e h here =
+    let rest = seat_at seats endpoints at e h.1 here in
+    record { seat = rest.seat; here = rest.here; fits = rest.fits }
+seat_at [] (x ∷ endpoints) at e h here = absurd h
+seat_at (s ∷ seats) [] at e h here = absurd h
+
+pub seats_length : (seats : List Seat) (endpoints : List Endpoint) → AllZip Seats seats endpoints →
+    length seats ≡ length endpoints
+seats_length [] [] h = refl
+seats_length (s ∷ seats) (e ∷ endpoints) h = let rest = seats_length seats endpoints h.1 in omega arith
+seats_length [] (e ∷ endpoints) h = absurd h
+seats_length (s ∷ seats) [] h = absurd h
+
+-- the seat of a number stands where the endpoint of that number stands
+same_places : (n : ℕ) (seats : List Seat) (endpoints : List Endpoint) → AllZip Seats seats endpoints →
+    position_or_len (is_seat n) seats ≡ position_or_len (is_endpoint n) endpoints
+same_places n [] [] h = refl
+same_places n (s ∷ seats) (e ∷ endpoints) h =
+    let test : is_seat n s ≡ is_endpoint n e = ap (λ m. m == n) h.0.number in
+    let rest = same_places n seats endpoints h.1 in
+    ap₂ (λ b k. cond (not b) (1 + k) 0) test rest
+same_places n [] (e ∷ endpoints) h = absurd h
+same_places n (s ∷ seats) [] h = absurd h
+
+pub place_is : {X : Type 0} (test : X → Bool) (xs : List X) (at : ℕ) → Some at ≡ position test xs →
+    position_or_len test xs ≡ at
+place_is test xs at e =
+    (cond_some (nat_lt (position_or_len test xs) (length xs)) (position_or_len test xs) at (sym e)).1
+
+pub seat_found : (n : ℕ) (seats : List Seat) (endpoints : List Endpoint) (at : ℕ) → AllZip Seats seats endpoints →
+    Some at ≡ position (is_endpoint n) endpoints → find (is_seat n) seats ≡ slice_get seats at
+seat_found n seats endpoints at h there =
+    find_at (is_seat n) seats
+    ∙ ap (slice_get seats) (same_places n seats endpoints h ∙ place_is (is_endpoint n) endpoints at there)
+
+-- ---- the next place of an endpoint
+
+place_of_seat : (o : Option Seat) → place_of (option_map playhead_of o) ≡ option_map_or (λ s. s.next) o 0
+place_of_seat None = refl
+place_of_seat (Some s) = refl
+
+pub next_by_heads : (n : ℕ) (seats : List Seat) →
+    place_of (find (λ (e : Playhead). e.number == n) (map playhead_of seats)) ≡ next_at n seats
+next_by_heads n seats =
+    ap place_of (find_mapped (λ (e : Playhead). e.number == n) playhead_of seats)
+    ∙ place_of_seat (find (is_seat n) seats)
+
+pub next_of_seat : {D E : Type 0} (b : Board D E) (n : ℕ) (datas : ℕ → BufferData) (tally : Tally) →
+    next_of n (state_of datas tally b).stage ≡ next_at n b.seats.items
+next_of_seat b n datas tally = next_by_heads n b.seats.items
+
+-- ---- the rows of a period
+
+pub no_endpoint_says : {D E : Type 0} (b : Board D E) (n : ℕ) → None ≡ position (is_endpoint n) b.book.endpoints.items →
+    Says b (λ st. (period_plan st n).rows) (Some hr.E_NOTFOUND)
+no_endpoint_says b n e datas tally =
+    ap (λ o. first (period_of (state_of datas tally b) o).rows) (none_at (is_endpoint n) b.book.endpoints.items e)
+
+-- an endpoint, and its seat, as they are read at a place
+module _ {D E : Type 0} (b : Board D E) (n at : ℕ) (seats : AllZip Seats b.seats.items b.book.endpoints.items)
+    (there : Some at ≡ position (is_endpoint n) b.book.endpoints.items) (e : Endpoint)
+    (read : e ≡ get_or b.book.endpoints.items at e) where
+  abbrev found_there : FoundAt (is_endpoint n) b.book.endpoints.items at
+  found_there = found_at (is_endpoint n) b.book.endpoints.items at there
+
+  read_is : found_there.member ≡ e
+  read_is =
+      sym (get_or_from_slice_get b.book.endpoints.items at found_there.member e found_there.here) ∙ sym read
+
+  here : slice_get b.book.endpoints.items at ≡ Some e
+  here = found_there.here ∙ ap (λ x. Some x) read_is
+
+  found : find (is_endpoint n) b.book.endpoints.items ≡ Some e
+  found = found_there.found ∙ ap (λ x. Some x) read_is
+
+  number_is : e.endpoint.0 ≡ n
+  number_is = eqb-true e.endpoint.0 n (ap (is_endpoint n) (sym read_is) ∙ found_there.passes)
+
+  abbrev its_seat : SeatAt b.seats.items at e
+  its_seat = seat_at b.seats.items b.book.endpoints.items at e seats here
+
+  pub seat_within : at < length b.seats.items
+  seat_within = slice_get_within b.seats.items at its_seat.seat its_seat.here
+
+  its_seat_found : find (is_seat n) b.seats.items ≡ Some its_seat.seat
+  its_seat_found = seat_found n b.seats.items b.book.endpoints.items at seats there ∙ its_seat.here
+
+  its_next : (datas : ℕ → BufferData) (tally : Tally) →
+      next_of e.endpoint.0 (state_of datas tally b).stage ≡ its_seat.seat.next
+  its_next datas tally =
+      ap (λ k. next_of k (state_of datas tally b).stage) number_is
+      ∙ next_of_seat b n datas tally
+      ∙ ap (λ o. option_map_or (λ (s : Seat). s.next) o 0) its_seat_found
+
+  says_by : (a w : Bool) → (e.state == STATE_ACTIVE) ≡ a →
+      nat_lt MAX_COUNT (its_seat.seat.next + period_frames e) ≡ w →
+      Says b (λ st. (period_plan st n).rows)
+      (if not a then Some hr.DEVICE_INVALIDATED else (if w then Some hr.WORN else None))
+  says_by a w active worn datas tally =
+      ap (λ o. first (period_of (state_of datas tally b) o).rows) found
+      ∙ ap (λ k. if not (e.state == STATE_ACTIVE) then Some hr.DEVICE_INVALIDATED
+      else (if nat_lt MAX_COUNT (k + period_frames e) then Some hr.WORN else None)) (its_next datas tally)
+      ∙ ap₂ (λ c v. if not c then Some hr.DEVICE_INVALIDATED else (if v then Some hr.WORN else None)) active worn
+
+  pub inactive_says : (e.state == STATE_ACTIVE) ≡ false → Says b (λ st. (period_plan st n).rows)
+      (Some hr.DEVICE_INVALIDATED)
+  inactive_says h = says_by false (nat_lt MAX_COUNT (its_seat.seat.next + period_frames e)) h refl
+
+  pub seat_bound : (s : Seat) → s ≡ get_or b.seats.items at s → s.next ≤ MAX_COUNT
+  seat_bound s read_seat =
+      let same : its_seat.seat ≡ s =
+      sym (get_or_from_slice_get b.seats.items at its_seat.seat s its_seat.here) ∙ sym read_seat in
+      subst (λ (t : Seat). t.next ≤ MAX_COUNT) same its_seat.fits.next
+
+  pub worn_says : (s : Seat) → s ≡ get_or b.seats.items at s → (e.state == STATE_ACTIVE) ≡ true →
+      MAX_COUNT < s.next + period_frames e → Says b (λ st. (period_plan st n).rows) (Some hr.WORN)
+  worn_says s read_seat active worn =
+      let same : its_seat.seat ≡ s =
+      sym (get_or_from_slice_get b.seats.items at its_seat.seat s its_seat.here) ∙ sym read_seat in
+      let beyond : nat_lt MAX_COUNT (s.next + period_frames e) ≡ true = grind (arith, nat_tests) in
+      says_by true true active (ap (λ (t : Seat). nat_lt MAX_COUNT (t.next + period_frames e)) same ∙ beyond)
+
+  pub finds_due : (s : Seat) → s ≡ get_or b.seats.items at s → e.state ≡ STATE_ACTIVE →
+      s.next + period_frames e ≤ MAX_COUNT → FindsDue n b at
+  finds_due s read_seat active room =
+      let same : its_seat.seat ≡ s =
+      sym (get_or_from_slice_get b.seats.items at its_seat.seat s its_seat.here) ∙ sym read_seat in
+      let within : nat_lt MAX_COUNT (s.next + period_frames e) ≡ false = grind (arith, nat_tests) in
+      record {
+        active = record {
+          endpoint = e;
+          here = here;
+          within = slice_get_within b.book.endpoints.items at e here;
+          found = found;
+          number_is = number_is;
+          active = active;
+        };
+        seat = its_seat.seat;
+        seat_here = its_seat.here;
+        seat_found = its_seat_found;
+        seats = its_seat.fits;
+        room = subst (λ (t : Seat). t.next + period_frames e ≤ MAX_COUNT) (sym same) room;
+        says =
+            says_by true false (eq-eqb e.state STATE_ACTIVE active)
+            (ap (λ (t : Seat). nat_lt MAX_COUNT (t.next + period_frames e)) same ∙ within);
+      }

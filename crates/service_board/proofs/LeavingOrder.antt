@@ -1,0 +1,109 @@
+-- A board that clients left is in order.
+use Rattle.std.proofs.Common.{◌≡◌, ◌≤◌, ◌==◌, not, List, [], ◌∷◌, length, map, filter, Bool, true, false, cond, refl}
+use Rattle.std.proofs.Common.{sym, ap, ◌∙◌, subst, find, arith}
+use Rattle.std.proofs.lemmas.List.Elements.{All-filter, All-from_recursion, recursion_from_All}
+use Rattle.std.specs.List.{All, AllByRecursion}
+use Rattle.std.specs.Vec.{vec_capacity}
+use Rattle.ca_base.specs.declared.limits.TheConstants.{CLIENTS}
+use Rattle.buffer_ring.specs.declared.step.EndState.{EndState}
+use Rattle.buffer_ring.specs.declared.step.Step.{Step}
+use Rattle.ca_stage.specs.Order.{RisesFrom}
+use Rattle.ca_machine.specs.declared.state.Client.{Client}
+use Rattle.ca_machine.specs.State.{live_clients}
+use Rattle.period_engine.specs.declared.entry.StreamEntry.{StreamEntry}
+use Rattle.period_engine.specs.Entries.{IsRested}
+use Rattle.service_board.specs.InOrder.{Belongs, InOrder, IsBook}
+use Rattle.service_board.specs.Leaving.{Forgets, is_live, is_of_live}
+use Rattle.service_board.specs.declared.board.Board.{Board}
+use Rattle.service_board.specs.declared.book.Book.{Book}
+use Rattle.service_board.proofs.Kept.{fewer_kept, found_kept, rises_kept}
+use Rattle.service_board.proofs.LeavingState.{without_clients}
+
+-- what holds of a member that passes, by what held of it
+passing : {A : Type 0} (p : A → Bool) (P Q : A → Type 0) → ((x : A) → P x → p x ≡ true → Q x) → (xs : List A) →
+    AllByRecursion P xs → AllByRecursion Q (filter p xs)
+passing p P Q h [] all = tt
+passing p P Q h (x ∷ xs) all = by (p x) (h x all.0) (passing p P Q h xs all.1)
+  where
+    by : (v : Bool) → (v ≡ true → Q x) → AllByRecursion Q (filter p xs) →
+        AllByRecursion Q (cond v (x ∷ filter p xs) (filter p xs))
+    by true here rest = (here refl, rest)
+    by false here rest = rest
+
+module _ {D E : Type 0} (state : E → EndState) (moves : E → List Step → E → Type 0) (b new : Board D E) (book : Book)
+    (order : InOrder state b) (p : Client → Bool) (forgets : Forgets moves (without_clients b book) new)
+    (left : book.clients.items ≡ filter (λ c. not (p c)) b.book.clients.items)
+    (room : vec_capacity book.clients ≡ vec_capacity b.book.clients)
+    (connection_room : vec_capacity book.connections ≡ vec_capacity b.book.connections) where
+  -- the book after
+  abbrev last_book : Book
+  last_book = record (b.book) {
+    connections = book.connections;
+    clients = book.clients;
+    sessions = new.book.sessions;
+  }
+
+  book_left : IsBook last_book
+  book_left =
+      let old = order.book in
+      let rooms = old.rooms in
+      let fewer = fewer_kept (λ c. not (p c)) b.book.clients.items in
+      record {
+        rooms = record {
+          connections = let r = rooms.connections in omega (arith, connection_room);
+          clients = let r = rooms.clients in omega (arith, room);
+          endpoints = rooms.endpoints;
+          sessions = let r = rooms.sessions in let s = forgets.session_room in omega arith;
+        };
+        clients =
+            subst (λ cs. RisesFrom 0 (live_clients cs)) (sym left)
+            (rises_kept (λ c. c.client.0) (λ c. not (p c)) 0 b.book.clients.items old.clients);
+        few_clients =
+            subst (λ cs. length cs ≤ CLIENTS) (sym left) (let f = old.few_clients in omega arith);
+        made =
+            subst (All (λ c. c.client.0 ≤ b.book.clients_made)) (sym left)
+            (All-filter (λ c. not (p c)) (λ c. c.client.0 ≤ b.book.clients_made) b.book.clients.items old.made);
+        clients_made = old.clients_made;
+        endpoints = old.endpoints;
+        added = old.added;
+        sessions_made = old.sessions_made;
+      }
+
+  belongs_left : (e : StreamEntry E) → Belongs b.book b.seats.items e → is_of_live book.clients.items e ≡ true →
+      Belongs last_book b.seats.items e
+  belongs_left e h live = record {
+    client = h.client;
+    live =
+        ap (find (λ c. c.client.0 == e.client.0)) left
+        ∙ found_kept (λ c. c.client.0) (λ c. not (p c)) e.client.0 0 b.book.clients.items h.client order.book.clients
+        h.live (ap (λ cs. is_live cs e.client.0) (sym left) ∙ live);
+    on = h.on;
+    endpoint = h.endpoint;
+    there = h.there;
+    channels = h.channels;
+    gains = h.gains;
+    renders = h.renders;
+    position = h.position;
+  }
+
+  pub order_left : InOrder state new
+  order_left =
+      let kept : List (StreamEntry E) = filter (is_of_live book.clients.items) b.entries.items in
+      let belong : All (Belongs last_book b.seats.items) kept =
+      All-from_recursion (Belongs last_book b.seats.items) kept
+      (passing (is_of_live book.clients.items) (Belongs b.book b.seats.items) (Belongs last_book b.seats.items)
+      belongs_left b.entries.items (recursion_from_All (Belongs b.book b.seats.items) b.entries.items order.belong)) in
+      subst (InOrder state) (sym forgets.rest) (record {
+        order =
+            subst (λ (es : List (StreamEntry E)). RisesFrom 0 (map (λ e. e.client.0) es)) (sym forgets.streams.left)
+            (rises_kept (λ (e : StreamEntry E). e.client.0) (is_of_live book.clients.items) 0 b.entries.items
+            order.order);
+        rested =
+            subst (All (IsRested state)) (sym forgets.streams.left)
+            (All-filter (is_of_live book.clients.items) (IsRested state) b.entries.items order.rested);
+        belong = subst (All (Belongs last_book b.seats.items)) (sym forgets.streams.left) belong;
+        seats = order.seats;
+        book = book_left;
+        room = let r = order.room in let s = forgets.room in omega arith;
+        seat_room = order.seat_room;
+      })

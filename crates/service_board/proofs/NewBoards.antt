@@ -1,0 +1,56 @@
+-- A board of empty tables is in order, and stands for the empty state.
+use Rattle.std.proofs.Common.{◌≡◌, ◌≤◌, [], map, refl, sym, subst, arith}
+use Rattle.std.specs.List.{All, AllZip}
+use Rattle.std.specs.Vec.{vec_capacity}
+use Rattle.std.proofs.lemmas.List.Elements.{All-nil}
+use Rattle.ca_base.specs.declared.limits.TheConstants.{CLIENTS, ENDPOINTS}
+use Rattle.buffer_ring.specs.declared.step.EndState.{EndState}
+use Rattle.ca_stage.specs.Order.{RisesFrom}
+use Rattle.ca_machine.specs.State.{live_clients}
+use Rattle.period_engine.specs.Entries.{AreInOrder, IsRested}
+use Rattle.service_board.specs.InOrder.{Belongs, IsBook, Seats}
+use Rattle.service_board.specs.New.{IsEmptyBook, IsNewBoard}
+use Rattle.service_board.specs.declared.board.Board.{Board}
+use Rattle.service_board.specs.declared.book.Book.{Book}
+
+empty_book : (b : Book) → IsEmptyBook b → IsBook b
+empty_book b empty = record {
+  rooms = empty.rooms;
+  clients = subst (λ xs. RisesFrom 0 (live_clients xs)) (sym empty.clients) tt;
+  few_clients = rw empty.clients (omega arith);
+  made = subst (All (λ c. c.client.0 ≤ b.clients_made)) (sym empty.clients) (All-nil _);
+  clients_made = rw empty.clients_made (omega arith);
+  endpoints = subst (λ xs. RisesFrom 0 (map (λ e. e.endpoint.0) xs)) (sym empty.endpoints) tt;
+  added = subst (All (λ e. e.endpoint.0 ≤ b.last_endpoint)) (sym empty.endpoints) (All-nil _);
+  sessions_made = rw empty.sessions_made (omega arith);
+}
+
+pub new_board : {D E : Type 0} (state : E → EndState) (b : Board D E) → IsEmptyBook b.book → b.seats.items ≡ [] →
+    b.entries.items ≡ [] → ENDPOINTS ≤ vec_capacity b.seats → CLIENTS ≤ vec_capacity b.entries →
+    IsNewBoard state b.devices b
+new_board state b empty seats entries seat_room room = record {
+  order = record {
+    order = subst AreInOrder (sym entries) tt;
+    rested = subst (All (IsRested state)) (sym entries) (All-nil _);
+    belong = subst (All (Belongs b.book b.seats.items)) (sym entries) (All-nil _);
+    seats =
+        subst (λ xs. AllZip Seats xs b.book.endpoints.items) (sym seats)
+        (subst (AllZip Seats []) (sym empty.endpoints) tt);
+    book = empty_book b.book empty;
+    room = room;
+    seat_room = seat_room;
+  };
+  devices_are = refl;
+  entries = entries;
+  empty = λ datas. rw (
+    seats,
+    entries,
+    empty.connections,
+    empty.clients,
+    empty.endpoints,
+    empty.sessions,
+    empty.last_endpoint,
+    empty.clients_made,
+    empty.sessions_made,
+  ) refl;
+}

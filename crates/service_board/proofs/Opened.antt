@@ -1,0 +1,239 @@
+-- What an Initialize opens: the state of the board with the new entry is that of the machine, which opened its stream.
+use Rattle.std.proofs.Common.{◌≡◌, ℕ, ◌==◌, List, [], ◌∷◌, ◌++◌, Bool, true, false, Option, Some, None}
+use Rattle.std.proofs.Common.{refl, sym, ap, ap₂, ◌∙◌, subst, eqb-true, find}
+use Rattle.std.specs.List.{insert}
+use Rattle.std.specs.Int.{w64, to_le_bytes}
+use Rattle.device_io.specs.DeviceLog.{DeviceLog}
+use Rattle.ca_base.specs.declared.codes.TheConstants.Hr as hr
+use Rattle.ca_base.specs.declared.ids.SessionNo.{SessionNo}
+use Rattle.ca_base.specs.declared.limits.TheConstants.{SHARED_PERIOD}
+use Rattle.wave_format.specs.declared.format.Format.{Format}
+use Rattle.wave_format.specs.Format.{frames_of_time, spelled}
+use Rattle.buffer_ring.specs.declared.step.Step.{Step}
+use Rattle.ca_stage.specs.Stage.{BufferData, Stage, Stream, no_data}
+use Rattle.ca_stage.specs.Moves.{after_move, as_opened, opened}
+use Rattle.ca_stage.specs.Tally.{Tally}
+use Rattle.ca_stage.proofs.StreamPlaces.{opened_in_place}
+use Rattle.ca_machine.specs.declared.state.Session.{Session}
+use Rattle.ca_machine.specs.State.{State, client_of}
+use Rattle.ca_machine.specs.Plan.{Outcome}
+use Rattle.ca_machine.specs.View.{AnswersBy, Outside, outside}
+use Rattle.ca_machine.specs.Streams.{
+  initialize_rows,
+  initialized,
+  joined,
+  new_session,
+  new_stream,
+  opened_in,
+  process_of,
+  session_found,
+  shared_buffer,
+  with_session,
+}
+use Rattle.period_engine.specs.declared.entry.StreamEntry.{StreamEntry}
+use Rattle.period_engine.specs.Entries.{stream_of}
+use Rattle.service_board.specs.Board.{book_state, stage_with, state_of}
+use Rattle.service_board.specs.Does.{Does, Made, store_at}
+use Rattle.service_board.specs.Lookups.{is_entry_of}
+use Rattle.service_board.specs.Openings.{HasSession, IsFresh, Joins, OpensSession}
+use Rattle.service_board.specs.Openings.{Plans, arguments, new_entry, opening_plan, session_in}
+use Rattle.service_board.specs.declared.board.Board.{Board}
+use Rattle.service_board.specs.declared.book.Book.{Book}
+use Rattle.service_board.specs.declared.opening.Opening.{Opening as Asked}
+use Rattle.service_board.specs.declared.opening.OpeningPlan.{OpeningPlan}
+use Rattle.service_board.proofs.Doing.{made_still}
+use Rattle.service_board.proofs.Memory.{answers_found, answers_out_of_memory}
+use Rattle.service_board.proofs.Planning.{process_is}
+use Rattle.service_board.proofs.Places.{
+  Splits,
+  map_insert,
+  no_store,
+  other_store,
+  own_store,
+  streams_above,
+  streams_below,
+}
+
+module _ {D E : Type 0} (x : Asked) (old : Board D E) (plan : OpeningPlan) (p : Plans x old plan) where
+  -- a stream by what was found of it
+  abbrev stream_by : ℕ → ℕ → Format → ℕ → ℕ → BufferData → Stream
+  stream_by client endpoint format buffer session d =
+      record (as_opened (new_stream p.named (arguments x) session)) {
+        client = client;
+        endpoint = endpoint;
+        channels = format.channels;
+        rate = format.rate;
+        buffer = buffer;
+        period = frames_of_time format.rate SHARED_PERIOD;
+        capacity = buffer;
+        buffer_data = d;
+      }
+
+  -- the entry's stream is the one that the machine opens, if nothing was ever released for the client
+  stream_is : (session : SessionNo) (store : E) (datas : ℕ → BufferData) → IsFresh x.client.0 datas →
+      as_opened (new_stream p.named (arguments x) session.0) ≡ stream_of datas (new_entry x plan session store)
+  stream_is session store datas fresh =
+      let asked : Format = spelled x.format.now in
+      let frames : ℕ = shared_buffer asked.rate x.duration in
+      ap₂ (λ client endpoint. stream_by client endpoint asked frames session.0 no_data) p.client_is p.on
+      ∙ ap (λ (f : Format). stream_by x.client.0 plan.endpoint.0 f (shared_buffer f.rate x.duration) session.0 no_data)
+      (sym p.format.spells)
+      ∙ ap₂ (λ buffer d. stream_by x.client.0 plan.endpoint.0 plan.format buffer session.0 d) (sym p.buffer) (sym fresh)
+
+  -- the stage with the new entry is the one after the stream was opened
+  stage_is : (at : ℕ) (session : SessionNo) (store : E) (datas : ℕ → BufferData) → IsFresh x.client.0 datas →
+      Splits x.client.0 at old.entries.items →
+      after_move (stage_with datas old.seats.items old.entries.items)
+      (opened (new_stream p.named (arguments x) session.0))
+      ≡ stage_with datas old.seats.items (insert old.entries.items at (new_entry x plan session store))
+  stage_is at session store datas fresh splits =
+      let st : Stage = stage_with datas old.seats.items old.entries.items in
+      let own : Splits p.named.client.0 at old.entries.items =
+      subst (λ n. Splits n at old.entries.items) (sym p.client_is) splits in
+      opened_in_place at (new_stream p.named (arguments x) session.0) st
+      (streams_below datas p.named.client.0 at old.entries.items own)
+      (streams_above datas p.named.client.0 at old.entries.items own)
+      ∙ ap (λ s. record st { streams = insert st.streams at s }) (stream_is session store datas fresh)
+      ∙ ap (λ ss. record st { streams = ss })
+      (sym (map_insert (stream_of datas) at (new_entry x plan session store) old.entries.items))
+
+  -- ---- the session
+
+  module _ (datas : ℕ → BufferData) (tally : Tally) (session : SessionNo) (book : Book)
+      (j : Joins plan.session x plan old.book session book) where
+    abbrev before : State
+    before = state_of datas tally old
+
+    -- the state before it with the book after it
+    abbrev between : State
+    between = book_state book before.stage tally
+
+    process_found : process_of x.conn.0 before ≡ plan.process
+    process_found = process_is old x plan.process (sym p.process)
+
+    found_is : session_found before x.conn.0 (Some p.named) (arguments x)
+        ≡ session_in plan.endpoint.0 plan.process x.session.0 old.book
+    found_is =
+        ap₂ (λ endpoint process. session_in endpoint process x.session.0 old.book) p.on process_found
+
+    abbrev state_by : List Session → ℕ → State
+    state_by sessions made = record before { sessions = sessions; sessions_made = made }
+
+    new_is : OpensSession x plan old.book session.0 book → with_session before x.conn.0 p.named (arguments x) ≡ between
+    new_is o =
+        ap (λ n. state_by
+        (old.book.sessions.items ++ new_session n p.named.endpoint.0 (process_of x.conn.0 before) x.session.0 ∷ []) n)
+        (sym o.number)
+        ∙ ap₂ (λ endpoint process.
+        state_by (old.book.sessions.items ++ new_session session.0 endpoint process x.session.0 ∷ []) session.0)
+        p.on process_found
+        ∙ ap (λ sessions. state_by sessions session.0) (sym o.sessions)
+        ∙ ap (λ b. book_state b before.stage tally) (sym o.rest)
+
+    joined_is : (found : Option Session) (number : Option SessionNo) → HasSession found old.book number →
+        Joins number x plan old.book session book →
+        joined before x.conn.0 p.named (arguments x) found ≡ opened_in between p.named (arguments x) session.0
+    joined_is (Some s) number h joins =
+        let k : Joins (Some s.session) x plan old.book session book =
+        subst (λ o. Joins o x plan old.book session book) h joins in
+        ap₂ (λ b (n : SessionNo). opened_in (book_state b before.stage tally) p.named (arguments x) n.0)
+        (sym k.1) (sym k.0)
+    joined_is None number h joins =
+        let o : OpensSession x plan old.book session.0 book =
+        subst (λ o. Joins o x plan old.book session book) h.0 joins in
+        ap₂ (λ st n. opened_in st p.named (arguments x) n) (new_is o) (sym o.number)
+
+    pub outcome_is : initialized before x.conn.0 (client_of x.conn.0 x.client.0 before) (arguments x)
+        ≡ opened_in between p.named (arguments x) session.0
+    outcome_is =
+        ap (λ o. initialized before x.conn.0 o (arguments x)) p.found
+        ∙ ap (joined before x.conn.0 p.named (arguments x)) found_is
+        ∙ joined_is (session_in plan.endpoint.0 plan.process x.session.0 old.book) plan.session p.session j
+
+  -- ---- what it does
+
+  module _ (faults : D → ℕ) (told : D → Option (List DeviceLog)) (moves : E → List Step → E → Type 0)
+      (stays : (a : E) → moves a [] a) where
+    -- memory ran out
+    pub no_memory_does : (given : Option E) (known : (ℕ → BufferData) → Type 0) →
+        Does faults told moves given known old old (opening_plan x) hr.E_OUTOFMEMORY []
+    no_memory_does given known = record {
+      steps = λ client. [];
+      made = λ client. made_still moves given stays (store_at client old.entries.items);
+      does = λ datas tally agrees knows. record {
+        tally = tally;
+        answers =
+            answers_out_of_memory (state_of datas tally old)
+            (initialize_rows (state_of datas tally old) x.conn.0 x.client.0 (arguments x))
+            (initialized (state_of datas tally old) x.conn.0
+            (client_of x.conn.0 x.client.0 (state_of datas tally old)) (arguments x))
+            (outside faults told old.devices) (p.says datas tally);
+      };
+    }
+
+    -- the stores are those that were there, and the one that was given
+    made_new : (at : ℕ) (new : StreamEntry E) (client : ℕ) → new.client.0 ≡ x.client.0 →
+        Made moves (Some new.store) [] (store_at client old.entries.items)
+        (store_at client (insert old.entries.items at new))
+    made_new at new client same = by (new.client.0 == client) refl
+      where
+        fresh : find (is_entry_of new.client.0) old.entries.items ≡ None
+        fresh = ap (λ n. find (is_entry_of n) old.entries.items) same ∙ p.fresh
+
+        own : Made moves (Some new.store) [] (store_at new.client.0 old.entries.items)
+            (store_at new.client.0 (insert old.entries.items at new))
+        own =
+            subst (λ o. Made moves (Some new.store) [] o (store_at new.client.0 (insert old.entries.items at new)))
+            (sym (no_store new.client.0 old.entries.items fresh))
+            (subst (λ o. Made moves (Some new.store) [] None o) (sym (own_store at new old.entries.items fresh))
+            (refl, refl))
+
+        by : (b : Bool) → (new.client.0 == client) ≡ b →
+            Made moves (Some new.store) [] (store_at client old.entries.items)
+            (store_at client (insert old.entries.items at new))
+        by true t =
+            subst (λ n. Made moves (Some new.store) [] (store_at n old.entries.items)
+            (store_at n (insert old.entries.items at new))) (eqb-true new.client.0 client t) own
+        by false t =
+            subst (λ o. Made moves (Some new.store) [] (store_at client old.entries.items) o)
+            (sym (other_store client at new old.entries.items t))
+            (made_still moves (Some new.store) stays (store_at client old.entries.items))
+
+    pub opened_does : (given : Option E) (at : ℕ) (session : SessionNo) (store : E) (new : Board D E) →
+        given ≡ Some store → new.devices ≡ old.devices → new.seats ≡ old.seats →
+        Joins plan.session x plan old.book session new.book →
+        Splits x.client.0 at old.entries.items →
+        new.entries.items ≡ insert old.entries.items at (new_entry x plan session store) →
+        Does faults told moves given (IsFresh x.client.0) old new (opening_plan x) hr.S_OK (to_le_bytes w64 session.0)
+    opened_does given at session store new is devices seats j splits items = record {
+      steps = λ client. [];
+      made = λ client.
+          subst (λ o. Made moves o [] (store_at client old.entries.items) (store_at client new.entries.items)) (sym is)
+          (subst (λ es. Made moves (Some store) [] (store_at client old.entries.items) (store_at client es)) (sym items)
+          (made_new at (new_entry x plan session store) client refl));
+      does = λ datas tally agrees fresh. record { tally = tally; answers = opens datas tally fresh };
+    }
+      where
+        opens : (datas : ℕ → BufferData) (tally : Tally) → IsFresh x.client.0 datas →
+            AnswersBy (state_of datas tally old) (opening_plan x (state_of datas tally old)) hr.S_OK
+            (to_le_bytes w64 session.0) (state_of datas tally new) (outside faults told old.devices)
+            (outside faults told new.devices)
+        opens datas tally fresh =
+            let before : State = state_of datas tally old in
+            let out : Outside = outside faults told old.devices in
+            let same = outcome_is datas tally session new.book j in
+            let answers : AnswersBy before (opening_plan x before) hr.S_OK (to_le_bytes w64 session.0)
+            (book_state new.book (after_move before.stage (opened (new_stream p.named (arguments x) session.0))) tally)
+            out out =
+            subst (λ (o : Outcome). AnswersBy before (opening_plan x before) o.result o.payload o.after out out) same
+            (answers_found before (initialize_rows before x.conn.0 x.client.0 (arguments x))
+            (initialized before x.conn.0 (client_of x.conn.0 x.client.0 before) (arguments x)) out (p.says datas tally)
+            (ap (λ (o : Outcome). o.output) same)) in
+            let stage : after_move before.stage (opened (new_stream p.named (arguments x) session.0))
+            ≡ stage_with datas new.seats.items new.entries.items =
+            stage_is at session store datas fresh splits
+            ∙ ap₂ (λ ss es. stage_with datas ss es) (ap (λ v. v.items) (sym seats)) (sym items) in
+            subst (λ d. AnswersBy before (opening_plan x before) hr.S_OK (to_le_bytes w64 session.0)
+            (state_of datas tally new) out (outside faults told d)) (sym devices)
+            (subst (λ st. AnswersBy before (opening_plan x before) hr.S_OK (to_le_bytes w64 session.0)
+            (book_state new.book st tally) out out) stage answers)

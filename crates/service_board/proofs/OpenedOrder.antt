@@ -1,0 +1,247 @@
+-- What an Initialize opens stands in order, and there is room for it.
+use Rattle.std.proofs.Common.{◌≡◌, ℕ, suc, ◌<◌, ◌≤◌, ◌==◌, ◌&&◌, List, [], ◌∷◌, length, Bool, true}
+use Rattle.std.proofs.Common.{false, cond, Option, Some, None, refl, sym, ap, ◌∙◌, subst, arith, find, eqb-true}
+use Rattle.std.specs.List.{All, AllByRecursion, AllZip, insert}
+use Rattle.std.specs.Vec.{vec_capacity}
+use Rattle.std.proofs.lemmas.List.{length-map}
+use Rattle.std.proofs.lemmas.List.Elements.{All-from_recursion, recursion_from_All}
+use Rattle.std.proofs.lemmas.Option.{none-some, same_Some}
+use Rattle.ca_base.specs.declared.ids.SessionNo.{SessionNo}
+use Rattle.ca_base.specs.declared.limits.TheConstants.{CLIENTS, ENDPOINTS, MAX_COUNT, SESSIONS}
+use Rattle.buffer_ring.specs.declared.step.EndState.{EndState}
+use Rattle.ca_stage.specs.Order.{RisesFrom, is_among}
+use Rattle.ca_stage.proofs.Lists.{all-map, all_weaker, found_passes}
+use Rattle.ca_machine.specs.declared.state.Client.{Client}
+use Rattle.ca_machine.specs.declared.state.Session.{Session}
+use Rattle.ca_machine.specs.State.{is_client_of, live_clients}
+use Rattle.ca_machine.proofs.LiveClients.{found_is_live}
+use Rattle.period_engine.specs.declared.entry.StreamEntry.{StreamEntry}
+use Rattle.period_engine.specs.Entries.{AreInOrder, IsRested}
+use Rattle.service_board.specs.InOrder.{Belongs, InOrder, IsBook, Seats}
+use Rattle.service_board.specs.Openings.{HasSession, IsNewStore, Joins, Plans, new_entry, session_in}
+use Rattle.service_board.specs.declared.board.Board.{Board}
+use Rattle.service_board.specs.declared.board.Seat.{Seat}
+use Rattle.service_board.specs.declared.book.Book.{Book}
+use Rattle.service_board.specs.declared.opening.Opening.{Opening as Asked}
+use Rattle.service_board.specs.declared.opening.OpeningPlan.{OpeningPlan}
+use Rattle.service_board.proofs.Places.{Splits, all_insert, length_insert, numbers, rises_insert, rising_within}
+
+-- ---- the live client of a number
+
+abbrev is_numbered : ℕ → Client → Bool
+is_numbered n c = c.client.0 == n
+
+-- a client that is found among later ones has a greater number
+found_later : (test : Client → Bool) (low : ℕ) (clients : List Client) (c : Client) →
+    RisesFrom low (live_clients clients) → find test clients ≡ Some c → low ≤ c.client.0
+found_later test low [] c r f = absurd (none-some c f)
+found_later test low (d ∷ clients) c r f = by (test d) f (found_later test (suc d.client.0) clients c r.1)
+  where
+    by : (b : Bool) → cond b (Some d) (find test clients) ≡ Some c →
+        (find test clients ≡ Some c → suc d.client.0 ≤ c.client.0) → low ≤ c.client.0
+    by true h later =
+        let l = r.0 in
+        let e : d.client.0 ≡ c.client.0 = ap (λ (k : Client). k.client.0) (same_Some d c h) in
+        omega arith
+    by false h later =
+        let l = r.0 in
+        let k = later h in
+        omega arith
+
+-- a call's client is the live one of its number
+pub found_live : (conn n low : ℕ) (clients : List Client) (c : Client) → RisesFrom low (live_clients clients) →
+    find (is_client_of conn n) clients ≡ Some c → c.client.0 ≡ n → find (is_numbered n) clients ≡ Some c
+found_live conn n low [] c r f same = absurd (none-some c f)
+found_live conn n low (d ∷ clients) c r f same =
+    by (d.client.0 == n) (d.conn.0 == conn) refl f (λ g. found_live conn n (suc d.client.0) clients c r.1 g same)
+  where
+    by : (a b : Bool) → (d.client.0 == n) ≡ a → cond (a && b) (Some d) (find (is_client_of conn n) clients) ≡ Some c →
+        (find (is_client_of conn n) clients ≡ Some c → find (is_numbered n) clients ≡ Some c) →
+        cond a (Some d) (find (is_numbered n) clients) ≡ Some c
+    by true true t g later = g
+    by true false t g later =
+        let e = eqb-true d.client.0 n t in
+        let l = found_later (is_client_of conn n) (suc d.client.0) clients c r.1 g in
+        absurd (omega arith)
+    by false b t g later = later g
+
+-- ---- the book
+
+-- a stream that joins a session leaves all else of the book
+pub book_rest : (number : Option SessionNo) (x : Asked) (plan : OpeningPlan) (old new : Book) (session : SessionNo) →
+    Joins number x plan old session new →
+    new ≡ record old { sessions = new.sessions; sessions_made = new.sessions_made }
+book_rest (Some s) x plan old new session j =
+    subst (λ b. b ≡ record old { sessions = b.sessions; sessions_made = b.sessions_made }) (sym j.1) refl
+book_rest None x plan old new session j =
+    j.rest ∙ ap (λ n. record old { sessions = new.sessions; sessions_made = n })
+    (sym (ap (λ (b : Book). b.sessions_made) j.rest))
+
+-- there is room for all sessions, and their count is in range
+sessions_fit : (number : Option SessionNo) (found : Option Session) (x : Asked) (plan : OpeningPlan) (old new : Book)
+    (session : SessionNo) → HasSession found old number → Joins number x plan old session new → IsBook old →
+    (SESSIONS ≤ vec_capacity new.sessions) × (new.sessions_made ≤ MAX_COUNT)
+sessions_fit (Some s) found x plan old new session h j o =
+    subst (λ (b : Book). (SESSIONS ≤ vec_capacity b.sessions) × (b.sessions_made ≤ MAX_COUNT)) (sym j.1)
+    (o.rooms.sessions, o.sessions_made)
+sessions_fit None None x plan old new session h j o =
+    let room = j.room in
+    let sessions = o.rooms.sessions in
+    let made : new.sessions_made ≡ session.0 = ap (λ (b : Book). b.sessions_made) j.rest in
+    let number = j.number in
+    let count = h.2 in
+    (omega arith, omega arith)
+sessions_fit None (Some s) x plan old new session h j o = cc
+
+pub book_joined : (number : Option SessionNo) (found : Option Session) (x : Asked) (plan : OpeningPlan)
+    (old new : Book) (session : SessionNo) → HasSession found old number → Joins number x plan old session new →
+    IsBook old → IsBook new
+book_joined number found x plan old new session h j o =
+    let fits = sessions_fit number found x plan old new session h j o in
+    let is : IsBook (record old { sessions = new.sessions; sessions_made = new.sessions_made }) = record {
+      rooms = record {
+        connections = o.rooms.connections;
+        clients = o.rooms.clients;
+        endpoints = o.rooms.endpoints;
+        sessions = fits.0;
+      };
+      clients = o.clients;
+      few_clients = o.few_clients;
+      made = o.made;
+      clients_made = o.clients_made;
+      endpoints = o.endpoints;
+      added = o.added;
+      sessions_made = fits.1;
+    } in
+    subst IsBook (sym (book_rest number x plan old new session j)) is
+
+-- an entry belongs to a book of which the sessions alone are others
+belongs_on : {E : Type 0} (old new : Book) (seats : List Seat) (e : StreamEntry E) →
+    new ≡ record old { sessions = new.sessions; sessions_made = new.sessions_made } → Belongs old seats e →
+    Belongs new seats e
+belongs_on old new seats e rest b =
+    let is : Belongs (record old { sessions = new.sessions; sessions_made = new.sessions_made }) seats e = record {
+      client = b.client;
+      live = b.live;
+      on = b.on;
+      endpoint = b.endpoint;
+      there = b.there;
+      channels = b.channels;
+      gains = b.gains;
+      renders = b.renders;
+      position = b.position;
+    } in
+    subst (λ k. Belongs k seats e) (sym rest) is
+
+-- ---- the entries
+
+module _ {D E : Type 0} (state : E → EndState) (x : Asked) (old : Board D E) (plan : OpeningPlan)
+    (p : Plans x old plan) (order : InOrder state old) (at : ℕ) (session : SessionNo) (store : E)
+    (splits : Splits x.client.0 at old.entries.items) where
+  abbrev entry : StreamEntry E
+  entry = new_entry x plan session store
+
+  numbers_rise : RisesFrom 0 (numbers (insert old.entries.items at entry))
+  numbers_rise = rises_insert 0 at entry old.entries.items (omega arith) order.order splits
+
+  -- each entry's client is live
+  entry_lives : (e : StreamEntry E) → Belongs old.book old.seats.items e →
+      is_among e.client.0 (live_clients old.book.clients.items) ≡ true
+  entry_lives e b =
+      ap (λ n. is_among n (live_clients old.book.clients.items))
+      (sym (found_number b))
+      ∙ found_is_live (is_numbered e.client.0) old.book.clients.items b.client b.live
+    where
+      found_number : (b : Belongs old.book old.seats.items e) → b.client.client.0 ≡ e.client.0
+      found_number b =
+          eqb-true b.client.client.0 e.client.0
+          (found_passes (is_numbered e.client.0) old.book.clients.items b.client b.live)
+
+  new_lives : is_among x.client.0 (live_clients old.book.clients.items) ≡ true
+  new_lives =
+      ap (λ n. is_among n (live_clients old.book.clients.items)) (sym p.client_is)
+      ∙ found_is_live (is_client_of x.conn.0 x.client.0) old.book.clients.items p.named p.found
+
+  all_live : AllByRecursion (λ n. is_among n (live_clients old.book.clients.items) ≡ true)
+      (numbers (insert old.entries.items at entry))
+  all_live =
+      all-map (λ (e : StreamEntry E). is_among e.client.0 (live_clients old.book.clients.items) ≡ true)
+      (λ n. is_among n (live_clients old.book.clients.items) ≡ true) (λ e. e.client.0) (λ e h. h)
+      (insert old.entries.items at entry)
+      (all_insert (λ (e : StreamEntry E). is_among e.client.0 (live_clients old.book.clients.items) ≡ true) at entry
+      old.entries.items
+      (all_weaker (Belongs old.book old.seats.items) _ entry_lives old.entries.items
+      (recursion_from_All (Belongs old.book old.seats.items) old.entries.items order.belong)) new_lives)
+
+  -- fewer than all clients have an entry, for the client of the call has none
+  pub has_room : length old.entries.items < CLIENTS
+  has_room =
+      let all = rising_within 0 (numbers (insert old.entries.items at entry))
+      (live_clients old.book.clients.items) numbers_rise order.book.clients all_live in
+      let few = order.book.few_clients in
+      let live : length (live_clients old.book.clients.items) ≡ length old.book.clients.items =
+      length-map old.book.clients.items (λ (c : Client). c.client.0) in
+      let count : length (numbers (insert old.entries.items at entry)) ≡ length (insert old.entries.items at entry) =
+      length-map (insert old.entries.items at entry) (λ (e : StreamEntry E). e.client.0) in
+      let more = length_insert at entry old.entries.items in
+      omega arith
+
+  -- ---- the board is in order
+
+  new_rests : IsNewStore state plan.buffer store → IsRested state entry
+  new_rests is = record {
+    fits = record {
+      gate = ap (λ (s : EndState). s.gate) is;
+      size = ap (λ (s : EndState). s.cap) is;
+      position = omega arith;
+      some_channel = p.format.valid.some_channel;
+      few_channels = p.format.valid.few_channels;
+    };
+    unpicked = refl;
+  }
+
+  new_belongs : Belongs old.book old.seats.items entry
+  new_belongs = record {
+    client = p.named;
+    live =
+        found_live x.conn.0 x.client.0 0 old.book.clients.items p.named order.book.clients p.found p.client_is;
+    on = p.on;
+    endpoint = p.endpoint;
+    there = p.there;
+    channels = p.format.channels;
+    gains = refl;
+    renders = refl;
+    position = omega arith;
+  }
+
+  pub opened_order : (new : Board D E) → IsNewStore state plan.buffer store → new.seats ≡ old.seats →
+      Joins plan.session x plan old.book session new.book →
+      new.entries.items ≡ insert old.entries.items at entry →
+      vec_capacity old.entries ≤ vec_capacity new.entries → InOrder state new
+  opened_order new is seats j items more = record {
+    order = subst AreInOrder (sym items) numbers_rise;
+    rested =
+        subst (All (IsRested state)) (sym items)
+        (All-from_recursion (IsRested state) (insert old.entries.items at entry)
+        (all_insert (IsRested state) at entry old.entries.items
+        (recursion_from_All (IsRested state) old.entries.items order.rested) (new_rests is)));
+    belong =
+        subst (All (Belongs new.book new.seats.items)) (sym items)
+        (subst (λ ss. All (Belongs new.book ss) (insert old.entries.items at entry)) (ap (λ v. v.items) (sym seats))
+        (All-from_recursion (Belongs new.book old.seats.items) (insert old.entries.items at entry)
+        (all_weaker (Belongs old.book old.seats.items) (Belongs new.book old.seats.items)
+        (λ e b. belongs_on old.book new.book old.seats.items e rest b) (insert old.entries.items at entry)
+        (all_insert (Belongs old.book old.seats.items) at entry old.entries.items
+        (recursion_from_All (Belongs old.book old.seats.items) old.entries.items order.belong) new_belongs))));
+    seats =
+        subst (λ ss. AllZip Seats ss new.book.endpoints.items) (ap (λ v. v.items) (sym seats))
+        (subst (λ (b : Book). AllZip Seats old.seats.items b.endpoints.items) (sym rest) order.seats);
+    book =
+        book_joined plan.session (session_in plan.endpoint.0 plan.process x.session.0 old.book) x plan old.book new.book
+        session p.session j order.book;
+    room = let room = order.room in omega arith;
+    seat_room = subst (λ v. ENDPOINTS ≤ vec_capacity v) (sym seats) order.seat_room;
+  }
+    where
+      rest : new.book ≡ record (old.book) { sessions = new.book.sessions; sessions_made = new.book.sessions_made }
+      rest = book_rest plan.session x plan old.book new.book session j

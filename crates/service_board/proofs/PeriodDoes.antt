@@ -1,0 +1,286 @@
+-- A period on a board is the machine's period.
+use Rattle.std.proofs.Common.{◌≡◌, ℕ, zero, suc, ◌<◌, ◌≤◌, ◌==◌, List, [], ◌∷◌, length, map, Bool, true, false}
+use Rattle.std.proofs.Common.{Option, Some}
+use Rattle.std.proofs.Common.{eq-eqb, None, refl, sym, ap, ap₂, ◌∙◌, subst, arith, if◌then◌else◌, slice_get, slice_set}
+use Rattle.std.specs.Prelude.{slice_index}
+use Rattle.std.specs.List.{AllZip}
+use Rattle.std.specs.Option.{option_map}
+use Rattle.std.proofs.lemmas.Bool.{true≢false}
+use Rattle.std.proofs.lemmas.Bool.Decides.{nat_tests}
+use Rattle.std.proofs.lemmas.Option.{none-some, same_Some, slice_get-map}
+use Rattle.std.proofs.lemmas.List.Elements.{All-from_recursion, All-get_or, All-take}
+use Rattle.device_io.specs.DeviceLog.{DeviceLog, add_all}
+use Rattle.ca_base.specs.declared.codes.TheConstants.Hr as hr
+use Rattle.ca_base.specs.declared.ids.Reason.TheVariants.{Removal}
+use Rattle.ca_base.specs.declared.values.TheConstants.{STATE_NOTPRESENT}
+use Rattle.ca_base.specs.Rows.{first}
+use Rattle.volume_stack.specs.Scaling.{unit_gain}
+use Rattle.buffer_ring.specs.declared.step.EndState.{EndState}
+use Rattle.buffer_ring.specs.declared.step.Step.{Step}
+use Rattle.ca_stage.specs.Stage.{BufferData, Playhead, Stage, Stream}
+use Rattle.ca_stage.specs.Moves.{Mixing, after_moves, after_period, closed, failed, finished, is_open_on, is_playing}
+use Rattle.ca_stage.specs.Moves.{Move, moved, picked, played, playhead_after, retired, sub_steps}
+use Rattle.ca_stage.specs.Order.{RisesFrom, clients}
+use Rattle.ca_stage.specs.Tally.{Tally, tally_after}
+use Rattle.ca_stage.proofs.Lists.{all_of, map_alike, map_map}
+use Rattle.ca_stage.proofs.MapPeriods.{mixed_at_sound}
+use Rattle.ca_stage.proofs.Periods.{period_by}
+use Rattle.ca_stage.proofs.SubSteps.{plays_on as plays_open_on}
+use Rattle.ca_machine.specs.declared.state.Endpoint.{Endpoint}
+use Rattle.ca_machine.specs.State.{empty_state}
+use Rattle.ca_machine.specs.Plan.{Answer, IsWriting, is_whole, pieces}
+use Rattle.ca_machine.specs.Plan as plan
+use Rattle.ca_machine.specs.Periods.{bytes_due, mixing_of, period_frames, period_of, period_payload, period_plan}
+use Rattle.ca_machine.specs.Periods.{sounding, with_failed}
+use Rattle.ca_machine.specs.Periods as machine
+use Rattle.ca_machine.specs.View.{AnswersBy, outside}
+use Rattle.period_engine.specs.Agreement.{AllAgree}
+use Rattle.period_engine.specs.Entries.{stream_of, streams_of}
+use Rattle.period_engine.specs.Sounds.{MixesThese}
+use Rattle.period_engine.specs.SubSteps.{picks_on, retires_on}
+use Rattle.service_board.specs.Board.{book_state, playhead_of, stage_with, state_of}
+use Rattle.service_board.specs.Does.{AnyData, Does, after_steps}
+use Rattle.service_board.specs.Due.{FindsDue}
+use Rattle.service_board.specs.InOrder.{InOrder, Seats}
+use Rattle.service_board.specs.Plays.{Plays, plays_on}
+use Rattle.service_board.specs.declared.board.Board.{Board}
+use Rattle.service_board.specs.declared.board.Seat.{Seat}
+use Rattle.service_board.proofs.ByClient.{all_made, are_after, streams_went}
+use Rattle.service_board.proofs.Offering.{answers_granted_by, answers_of, answers_write, faults_rise, pieces_are}
+use Rattle.service_board.proofs.Offering.{whole_is}
+use Rattle.service_board.proofs.PeriodNeeds.{end_gains, ends_length, units}
+
+-- ---- what a period makes of a stream
+
+retires_picked : (number frames : ℕ) (s : Stream) (b : Bool) → is_playing number s ≡ b →
+    retires_on number (if b then moved (picked frames) s else s)
+    ≡ (if b then moved retired (moved (picked frames) s) else s)
+retires_picked number frames s true e =
+    ap (λ c. if c then moved retired (moved (picked frames) s) else moved (picked frames) s) e
+retires_picked number frames s false e = ap (λ c. if c then moved retired s else s) e
+
+closes_picked : (number frames : ℕ) (s : Stream) (b c : Bool) → is_playing number s ≡ b → is_open_on number s ≡ c →
+    (if c then moved (closed Removal) (if b then moved (picked frames) s else s)
+    else (if b then moved (picked frames) s else s))
+    ≡ (if c then moved (closed Removal) s else s)
+closes_picked number frames s true true e o = refl
+closes_picked number frames s true false e o = absurd (true≢false (sym (plays_open_on number s e) ∙ o))
+closes_picked number frames s false true e o = refl
+closes_picked number frames s false false e o = refl
+
+still_open : (number frames : ℕ) (s : Stream) (b : Bool) →
+    is_open_on number (if b then moved (picked frames) s else s) ≡ is_open_on number s
+still_open number frames s true = refl
+still_open number frames s false = refl
+
+-- a period of a whole stage is one map over its streams, by whether the device took all
+abbrev its_map : Mixing → Bool → Stream → Stream
+its_map m true s = played m s
+its_map m false s = failed m s
+
+plays_alike : (m : Mixing) (whole : Bool) (s : Stream) → plays_on m.endpoint m.frames whole s ≡ its_map m whole s
+plays_alike m true s = retires_picked m.endpoint m.frames s (is_playing m.endpoint s) refl
+plays_alike m false s =
+    ap (λ c. if c then moved (closed Removal) (picks_on m.endpoint m.frames s) else picks_on m.endpoint m.frames s)
+    (still_open m.endpoint m.frames s (is_playing m.endpoint s))
+    ∙ closes_picked m.endpoint m.frames s (is_playing m.endpoint s) (is_open_on m.endpoint s) refl refl
+
+-- ---- the playheads, and the endpoints
+
+pub seat_numbers : (seats : List Seat) (endpoints : List Endpoint) → AllZip Seats seats endpoints →
+    map (λ (e : Playhead). e.number) (map playhead_of seats) ≡ map (λ (e : Endpoint). e.endpoint.0) endpoints
+seat_numbers [] [] h = refl
+seat_numbers (s ∷ seats) (e ∷ endpoints) h = ap₂ (λ n ns. n ∷ ns) h.0.number (seat_numbers seats endpoints h.1)
+seat_numbers [] (e ∷ endpoints) h = absurd h
+seat_numbers (s ∷ seats) [] h = absurd h
+
+pub get_mapped : {X Y : Type 0} (f : X → Y) (xs : List X) (at : ℕ) (x : X) → slice_get xs at ≡ Some x →
+    slice_get (map f xs) at ≡ Some (f x)
+get_mapped f xs at x h = slice_get-map f xs at ∙ ap (option_map f) h
+
+-- endpoints of greater numbers stay
+above_stay : (n low : ℕ) (endpoints : List Endpoint) → n < low → RisesFrom low (map (λ e. e.endpoint.0) endpoints) →
+    with_failed n endpoints ≡ endpoints
+above_stay n low [] lt rises = refl
+above_stay n low (e ∷ endpoints) lt rises =
+    let above = rises.0 in
+    let other : (e.endpoint.0 == n) ≡ false = grind (arith, nat_tests) in
+    ap₂ (λ x xs. x ∷ xs) (ap (λ b. if b then record e { state = STATE_NOTPRESENT } else e) other)
+    (above_stay n (suc e.endpoint.0) endpoints (omega arith) rises.1)
+
+number_above : (low at : ℕ) (endpoints : List Endpoint) (e : Endpoint) →
+    RisesFrom low (map (λ e. e.endpoint.0) endpoints) → slice_get endpoints at ≡ Some e → low ≤ e.endpoint.0
+number_above low at [] e rises here = absurd (none-some e here)
+number_above low zero (x ∷ endpoints) e rises here =
+    subst (λ (y : Endpoint). low ≤ y.endpoint.0) (same_Some x e here) rises.0
+number_above low (suc at) (x ∷ endpoints) e rises here =
+    let rest = number_above (suc x.endpoint.0) at endpoints e rises.1 here in
+    let first = rises.0 in
+    omega arith
+
+-- the endpoint at a place is the one that failed
+pub failed_in_place : (low n at : ℕ) (endpoints : List Endpoint) (e : Endpoint) →
+    RisesFrom low (map (λ e. e.endpoint.0) endpoints) → slice_get endpoints at ≡ Some e → e.endpoint.0 ≡ n →
+    slice_set endpoints at (record e { state = STATE_NOTPRESENT }) ≡ with_failed n endpoints
+failed_in_place low n at [] e rises here number = absurd (none-some e here)
+failed_in_place low n zero (x ∷ endpoints) e rises here number =
+    let same = same_Some x e here in
+    let own : x.endpoint.0 ≡ n = ap (λ (y : Endpoint). y.endpoint.0) same ∙ number in
+    ap₂ (λ y ys. y ∷ ys)
+    (ap (λ (y : Endpoint). record y { state = STATE_NOTPRESENT }) (sym same)
+    ∙ ap (λ b. if b then record x { state = STATE_NOTPRESENT } else x) (sym (eq-eqb x.endpoint.0 n own)))
+    (sym (above_stay n (suc x.endpoint.0) endpoints (omega arith) rises.1))
+failed_in_place low n (suc at) (x ∷ endpoints) e rises here number =
+    let above = number_above (suc x.endpoint.0) at endpoints e rises.1 here in
+    let other : (x.endpoint.0 == n) ≡ false = grind (arith, nat_tests) in
+    ap₂ (λ y ys. y ∷ ys) (ap (λ b. if b then record x { state = STATE_NOTPRESENT } else x) (sym other))
+    (failed_in_place (suc x.endpoint.0) n at endpoints e rises.1 here number)
+
+-- ---- gains that change nothing
+
+each_unit : (channels channel : ℕ) → channel < length (end_gains channels) →
+    slice_index (end_gains channels) channel ≡ unit_gain
+each_unit channels channel lt =
+    let P : ℕ → Type 0 = λ gain. gain ≡ unit_gain in
+    All-get_or P (end_gains channels) channel 0 lt
+    (All-take P channels units (All-from_recursion P units (refl, (refl, (refl, (refl, tt))))))
+
+unit_at : (channels channel : ℕ) → channels ≤ 4 → channel < length (end_gains channels) →
+    slice_index units channel ≡ unit_gain
+unit_at channels channel few lt =
+    let P : ℕ → Type 0 = λ gain. gain ≡ unit_gain in
+    let size = ends_length channels few in
+    All-get_or P units channel 0 (omega arith) (All-from_recursion P units (refl, (refl, (refl, (refl, tt)))))
+
+-- ---- the period
+
+-- the playheads after a period, by whether the device took all
+abbrev pub heads_by : Mixing → Bool → List Playhead → List Playhead
+heads_by m true heads = map (playhead_after (finished m true)) heads
+heads_by m false heads = heads
+
+after_period_is : (m : Mixing) (whole : Bool) (st : Stage) →
+    after_period m whole st
+    ≡ record { playheads = heads_by m whole st.playheads; streams = map (its_map m whole) st.streams }
+after_period_is m true st = refl
+after_period_is m false st = refl
+
+module _ {D E : Type 0} (faults : D → ℕ) (told : D → Option (List DeviceLog)) (moves : E → List Step → E → Type 0)
+    (state : E → EndState) (b new : Board D E) (order : InOrder state b) (number at : ℕ) (due : FindsDue number b at)
+    (whole : Bool)
+    (plays : Plays moves due.active.endpoint.endpoint.0 (period_frames due.active.endpoint)
+    (end_gains due.active.endpoint.format.channels) whole b.entries.items new.entries.items (faults b.devices)
+    (told b.devices) (faults new.devices) (told new.devices))
+  where
+    abbrev its_endpoint : Endpoint
+    its_endpoint = due.active.endpoint
+
+    abbrev pub its_mixing : Mixing
+    its_mixing = mixing_of empty_state its_endpoint
+
+    abbrev pub stage_by : (ℕ → BufferData) → Stage
+    stage_by datas = stage_with datas b.seats.items b.entries.items
+
+    rises : (datas : ℕ → BufferData) → RisesFrom 0 (clients (stage_by datas))
+    rises datas =
+        subst (RisesFrom 0) (sym (map_map (λ (s : Stream). s.client) (stream_of datas) b.entries.items)) order.order
+
+    mixes : MixesThese its_mixing its_endpoint.endpoint.0 (period_frames its_endpoint)
+        (end_gains its_endpoint.format.channels) b.entries.items
+    mixes = record {
+      endpoint = refl;
+      lasts = refl;
+      channels = sym (ends_length its_endpoint.format.channels due.seats.format.few_channels);
+      gains = λ k d lt channel below.
+          sym (ap (λ gains. slice_index gains channel) (order.belong k d lt).gains
+          ∙ unit_at its_endpoint.format.channels channel due.seats.format.few_channels below);
+      end_gains = λ channel below. sym (each_unit its_endpoint.format.channels channel below);
+    }
+
+    module _ (datas : ℕ → BufferData) (agree : AllAgree plays.steps datas b.entries.items) where
+      abbrev datas_after : ℕ → BufferData
+      datas_after = after_steps plays.steps b.entries.items datas
+
+      bytes_are : plays.bytes ≡ bytes_due its_mixing (stage_by datas)
+      bytes_are =
+          plays.mixed datas its_mixing agree mixes ∙ sym (mixed_at_sound its_mixing (stage_by datas) (rises datas))
+
+      streams_are : streams_of datas_after new.entries.items
+          ≡ map (its_map its_mixing whole) (streams_of datas b.entries.items)
+      streams_are =
+          sym (streams_went moves (plays_on its_endpoint.endpoint.0 (period_frames its_endpoint) whole) plays.steps
+          datas
+          datas_after b.entries.items new.entries.items plays.went agree
+          (are_after plays.steps b.entries.items datas order.order))
+          ∙ map_alike (plays_on its_endpoint.endpoint.0 (period_frames its_endpoint) whole) (its_map its_mixing whole)
+          (streams_of datas b.entries.items) (all_of _ (plays_alike its_mixing whole)
+          (streams_of datas b.entries.items))
+
+    module _ (heads : map playhead_of new.seats.items ≡ heads_by its_mixing whole (map playhead_of b.seats.items))
+        (book : (stage : Stage) (tally : Tally) → book_state new.book stage tally
+        ≡ machine.after_period its_endpoint.endpoint.0 whole (book_state b.book stage tally))
+        (payload : List ℕ) (payload_is : payload ≡ period_payload its_mixing whole)
+      where
+        module _ (datas : ℕ → BufferData) (tally : Tally) (agree : AllAgree plays.steps datas b.entries.items) where
+          abbrev sub_moves : List Move
+          sub_moves = sub_steps its_mixing whole (stage_by datas)
+
+          abbrev tally_then : Tally
+          tally_then = tally_after tally (stage_by datas) sub_moves
+
+          stage_is : stage_with (datas_after datas agree) new.seats.items new.entries.items
+              ≡ after_moves (stage_by datas) sub_moves
+          stage_is =
+              ap₂ (λ hs ss. record { playheads = hs; streams = ss }) heads (streams_are datas agree)
+              ∙ sym (after_period_is its_mixing whole (stage_by datas))
+              ∙ sym (period_by its_mixing (stage_by datas) (rises datas) whole)
+
+          state_is : state_of (datas_after datas agree) tally_then new
+              ≡ machine.after_period its_endpoint.endpoint.0 whole (plan.moved sub_moves (state_of datas tally b))
+          state_is =
+              ap (λ stage. book_state new.book stage tally_then) stage_is
+              ∙ book (after_moves (stage_by datas) sub_moves) tally_then
+
+          abbrev given : List Answer
+          given = answers_of plays.offers.counts whole
+
+          answers : AnswersBy (state_of datas tally b) (period_of (state_of datas tally b) (Some its_endpoint)) hr.S_OK
+              payload (state_of (datas_after datas agree) tally_then new) (outside faults told b.devices)
+              (outside faults told new.devices)
+          answers =
+              let st = state_of datas tally b in
+              let counts = plays.offers.counts in
+              let is_w = whole_is counts whole in
+              answers_granted_by st (period_of st (Some its_endpoint)) hr.S_OK payload
+              (state_of (datas_after datas agree) tally_then new) (outside faults told b.devices)
+              (outside faults told new.devices) given
+              (sym (ap (λ o. first (period_of st o).rows) due.active.found) ∙ due.says datas tally)
+              (subst (λ n. IsWriting n given) (ap length (bytes_are datas agree))
+              (answers_write counts whole (length plays.bytes) plays.offers.taken))
+              refl
+              (payload_is ∙ ap (period_payload its_mixing) (sym is_w))
+              (state_is ∙ ap (λ w. machine.after_period its_endpoint.endpoint.0 w
+              (plan.moved (sub_steps its_mixing w (stage_by datas)) st)) (sym is_w))
+              (record {
+                tells =
+                    plays.offers.tells
+                    ∙ ap (λ ps. option_map (add_all ps) (told b.devices))
+                    (sym (pieces_are its_endpoint.endpoint.0 plays.bytes counts whole)
+                    ∙ ap (λ bs. pieces its_endpoint.endpoint.0 bs given) (bytes_are datas agree));
+                counts = faults_rise counts whole (faults b.devices) (faults new.devices) plays.offers.rises;
+              })
+
+        pub period_does : Does faults told moves None AnyData b new (λ st. period_plan st number) hr.S_OK payload
+        period_does = record {
+          steps = plays.steps;
+          made = λ client.
+              all_made moves (plays_on its_endpoint.endpoint.0 (period_frames its_endpoint) whole) plays.steps None
+              b.entries.items new.entries.items plays.went client (plays.none client);
+          does = λ datas tally agree knows. record {
+            tally = tally_then datas tally agree;
+            answers =
+                subst (λ o. AnswersBy (state_of datas tally b) (period_of (state_of datas tally b) o) hr.S_OK payload
+                (state_of (datas_after datas agree) (tally_then datas tally agree) new) (outside faults told b.devices)
+                (outside faults told new.devices)) (sym due.active.found) (answers datas tally agree);
+          };
+        }

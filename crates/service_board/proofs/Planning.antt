@@ -1,0 +1,311 @@
+-- What the rows of an Initialize say on a board, one after another.
+use Rattle.std.proofs.Common.{◌≡◌, ℕ, ◌||◌, not, nat_le, List, [], ◌∷◌}
+use Rattle.std.proofs.Common.{◌++◌, length, Bool, true, false, Option, Some, None}
+use Rattle.std.proofs.Common.{refl, sym, ap, ◌∙◌, if◌then◌else◌, is_some, get_or}
+use Rattle.std.proofs.Common.{slice_get, ◌<◌, ◌≤◌, ◌⊎◌, inl, inr, arith}
+use Rattle.std.specs.Option.{option_map, option_map_or}
+use Rattle.std.specs.List.{find, list_any, position}
+use Rattle.std.proofs.lemmas.Option.{get_or_from_slice_get, none-some, slice_get_cases}
+use Rattle.std.specs.Vec.{vec_len}
+use Rattle.device_io.specs.DeviceLog.{DeviceLog}
+use Rattle.ca_base.specs.declared.codes.Hr.{Hr}
+use Rattle.ca_base.specs.declared.codes.TheConstants.Hr as hr
+use Rattle.ca_base.specs.declared.limits.TheConstants.{MAX_COUNT, SESSIONS}
+use Rattle.ca_base.specs.Rows.{Row, first}
+use Rattle.ca_stage.specs.Moves.{stream_at}
+use Rattle.ca_machine.specs.declared.state.Connection.{Connection}
+use Rattle.ca_machine.specs.declared.state.Endpoint.{Endpoint}
+use Rattle.ca_machine.specs.State.{State, client_of, is_connection, is_endpoint}
+use Rattle.ca_machine.specs.SharedRows.{control_rows, endpoint_of}
+use Rattle.ca_machine.specs.Streams.{
+  endpoint_rows,
+  has_no_match,
+  if_new,
+  initialize_rows,
+  is_faulty,
+  is_malformed,
+  later_rows,
+  process_of,
+  session_found,
+}
+use Rattle.buffer_ring.specs.declared.step.Step.{Step}
+use Rattle.service_board.specs.Board.{state_of}
+use Rattle.service_board.specs.Does.{AnyData, Does}
+use Rattle.service_board.specs.Lookups.{FindsEndpoint, Says, is_entry_of}
+use Rattle.service_board.specs.Openings.{
+  argument_rows,
+  arguments,
+  format_rows,
+  opening_plan,
+  process_in,
+  session_in,
+  session_rows,
+}
+use Rattle.service_board.specs.declared.board.Board.{Board}
+use Rattle.service_board.specs.declared.opening.Opening.{Opening as Asked}
+use Rattle.service_board.proofs.Doing.{refused_does}
+use Rattle.service_board.proofs.Finding.{found_at, none_at}
+use Rattle.service_board.proofs.LookingUp.{no_stream, says_front, says_later, stream_there}
+
+-- a test of a list that finds a member holds of one, and of none where it finds none
+any_found : {X : Type 0} (test : X → Bool) (xs : List X) (x : X) → find test xs ≡ Some x → list_any test xs ≡ true
+any_found test [] x e = absurd (none-some x e)
+any_found test (y ∷ xs) x e = by (test y) e (any_found test xs x)
+  where
+    by : (b : Bool) → (if b then Some y else find test xs) ≡ Some x →
+        (find test xs ≡ Some x → list_any test xs ≡ true) → (b || list_any test xs) ≡ true
+    by true h later = refl
+    by false h later = later h
+
+any_none : {X : Type 0} (test : X → Bool) (xs : List X) → find test xs ≡ None → list_any test xs ≡ false
+any_none test [] e = refl
+any_none test (y ∷ xs) e = by (test y) e (any_none test xs)
+  where
+    by : (b : Bool) → (if b then Some y else find test xs) ≡ None →
+        (find test xs ≡ None → list_any test xs ≡ false) → (b || list_any test xs) ≡ false
+    by true h later = absurd (none-some y (sym h))
+    by false h later = later h
+
+mapped_none : {X Y : Type 0} (f : X → Y) (o : Option X) → None ≡ option_map f o → o ≡ None
+mapped_none f None e = refl
+mapped_none f (Some x) e = absurd (none-some (f x) e)
+
+mapped_some : {X Y : Type 0} (f : X → Y) (o : Option X) (y : Y) → Some y ≡ option_map f o →
+    (x : X) × (o ≡ Some x)
+mapped_some f None y e = absurd (none-some y (sym e))
+mapped_some f (Some x) y e = (x, refl)
+
+-- ---- the rows of an Initialize's own, as they look its client up
+
+abbrev pub stream_row : Asked → State → List (Row Hr)
+stream_row x st = (is_some (stream_at x.client.0 st.stage), hr.ALREADY_INITIALIZED) ∷ []
+
+abbrev pub own_format_rows : Asked → State → List (Row Hr)
+own_format_rows x st =
+    (is_malformed x.format.now, hr.E_INVALIDARG)
+    ∷ (
+      is_faulty x.format.now || has_no_match (endpoint_of st (client_of x.conn.0 x.client.0 st)) x.format.now,
+      hr.UNSUPPORTED_FORMAT,
+    )
+    ∷ []
+
+abbrev pub own_session_rows : Asked → State → List (Row Hr)
+own_session_rows x st = (
+  if_new (session_found st x.conn.0 (client_of x.conn.0 x.client.0 st) (arguments x))
+      (nat_le SESSIONS (length st.sessions)),
+  hr.SESSIONS_FULL,
+)
+    ∷ (
+      if_new (session_found st x.conn.0 (client_of x.conn.0 x.client.0 st) (arguments x))
+          (nat_le MAX_COUNT st.sessions_made),
+      hr.WORN,
+    )
+    ∷ []
+
+-- ---- what each row says, by what was found
+
+module _ {D E : Type 0} (b : Board D E) (x : Asked) where
+  pub connected_says : (process : ℕ) → Some process ≡ process_in x.conn.0 b.book →
+      Says b (control_rows x.conn.0) None
+  connected_says process e datas tally =
+      let found = mapped_some (λ (c : Connection). c.process) (find (is_connection x.conn.0) b.book.connections.items)
+      process e in
+      ap (λ v. if not v then Some hr.E_HANDLE else None)
+      (any_found (is_connection x.conn.0) b.book.connections.items found.0 found.1)
+
+  pub unconnected_says : None ≡ process_in x.conn.0 b.book → Says b (control_rows x.conn.0) (Some hr.E_HANDLE)
+  unconnected_says e datas tally =
+      ap (λ v. if not v then Some hr.E_HANDLE else None)
+      (any_none (is_connection x.conn.0) b.book.connections.items
+      (mapped_none (λ (c : Connection). c.process) (find (is_connection x.conn.0) b.book.connections.items) e))
+
+  -- the process of the connection, in a state
+  pub process_is : (process : ℕ) → Some process ≡ process_in x.conn.0 b.book →
+      option_map_or (λ c. c.process) (find (is_connection x.conn.0) b.book.connections.items) 0 ≡ process
+  process_is process e = by (find (is_connection x.conn.0) b.book.connections.items) e
+    where
+      by : (o : Option Connection) → Some process ≡ option_map (λ (c : Connection). c.process) o →
+          option_map_or (λ c. c.process) o 0 ≡ process
+      by None h = absurd (none-some process (sym h))
+      by (Some c) h = cc
+
+  pub no_entry : (o : Option ℕ) → o ≡ position (is_entry_of x.client.0) b.entries.items → is_some o ≡ false →
+      find (is_entry_of x.client.0) b.entries.items ≡ None
+  no_entry None e h = none_at (is_entry_of x.client.0) b.entries.items e
+  no_entry (Some at) e h = cc
+
+  pub stream_says : find (is_entry_of x.client.0) b.entries.items ≡ None → Says b (stream_row x) None
+  stream_says none datas tally =
+      ap (λ o. if is_some o then Some hr.ALREADY_INITIALIZED else None) (no_stream b x.client.0 none datas tally)
+
+  pub stream_refuses : (o : Option ℕ) → o ≡ position (is_entry_of x.client.0) b.entries.items → is_some o ≡ true →
+      Says b (stream_row x) (Some hr.ALREADY_INITIALIZED)
+  stream_refuses None e h datas tally = cc
+  stream_refuses (Some at) e h datas tally =
+      let f = found_at (is_entry_of x.client.0) b.entries.items at e in
+      ap (λ o. if is_some o then Some hr.ALREADY_INITIALIZED else None)
+      (stream_there b x.client.0 f.member f.found datas tally)
+
+  -- of a client on an endpoint that were found
+  module _ (at : ℕ) (found : FindsEndpoint x.conn.0 x.client.0 b at) where
+    pub read_endpoint : (e : Endpoint) → e ≡ get_or b.book.endpoints.items at e → found.active.endpoint ≡ e
+    read_endpoint e read =
+        sym (get_or_from_slice_get b.book.endpoints.items at found.active.endpoint e found.active.here) ∙ sym read
+
+    pub within : at < vec_len b.book.endpoints
+    within = by (slice_get_cases b.book.endpoints.items at).1
+      where
+        by : ((e : Endpoint) × (at < length b.book.endpoints.items) × (slice_get b.book.endpoints.items at ≡ Some e)
+            × (get_or b.book.endpoints.items at e ≡ e))
+            ⊎ ((length b.book.endpoints.items ≤ at) × (slice_get b.book.endpoints.items at ≡ None)) →
+            at < vec_len b.book.endpoints
+        by (inl there) = let k = there.1 in let l = b.book.endpoints.ok.0 in omega arith
+        by (inr past) = absurd (none-some found.active.endpoint (sym past.1 ∙ found.active.here))
+
+    -- the endpoint's number, and that it is found by it
+    pub number_read : (e : Endpoint) → found.active.endpoint ≡ e → found.named.endpoint.0 ≡ e.endpoint.0
+    number_read e same = sym found.active.number_is ∙ ap (λ (y : Endpoint). y.endpoint.0) same
+
+    pub there_read : (e : Endpoint) → found.active.endpoint ≡ e →
+        find (is_endpoint e.endpoint.0) b.book.endpoints.items ≡ Some e
+    there_read e same =
+        ap (λ n. find (is_endpoint n) b.book.endpoints.items) (sym (number_read e same))
+        ∙ found.active.found
+        ∙ ap (λ y. Some y) same
+
+    abbrev format_verdict : Option Endpoint → Option Hr
+    format_verdict o = first (
+        (is_malformed x.format.now, hr.E_INVALIDARG)
+        ∷ (is_faulty x.format.now || has_no_match o x.format.now, hr.UNSUPPORTED_FORMAT)
+        ∷ []
+        )
+
+    pub format_says : (e : Endpoint) → found.active.endpoint ≡ e → (verdict : Option Hr) →
+        first (format_rows e.format (arguments x)) ≡ verdict → Says b (own_format_rows x) verdict
+    format_says e same verdict says datas tally =
+        ap (λ o. format_verdict (endpoint_of (state_of datas tally b) o)) found.found
+        ∙ ap format_verdict (found.active.found ∙ ap (λ y. Some y) same)
+        ∙ says
+
+    pub session_says : (e : Endpoint) → found.active.endpoint ≡ e → (process : ℕ) →
+        Some process ≡ process_in x.conn.0 b.book → (verdict : Option Hr) →
+        first (session_rows (session_in e.endpoint.0 process x.session.0 b.book) b.book) ≡ verdict →
+        Says b (own_session_rows x) verdict
+    session_says e same process there verdict says datas tally =
+        let st : State = state_of datas tally b in
+        ap (λ o. first (session_rows (session_found st x.conn.0 o (arguments x)) b.book)) found.found
+        ∙ ap (λ n. first (session_rows (session_in n (process_of x.conn.0 st) x.session.0 b.book) b.book))
+        (sym found.active.number_is ∙ ap (λ (y : Endpoint). y.endpoint.0) same)
+        ∙ ap (λ p. first (session_rows (session_in e.endpoint.0 p x.session.0 b.book) b.book))
+        (process_is process there)
+        ∙ says
+
+-- ---- the rows one after another: the first of each group, and those behind them
+
+abbrev Rows : Type 0
+Rows = State → List (Row Hr)
+
+module _ (x : Asked) where
+  abbrev pub all_rows : Rows
+  all_rows st = initialize_rows st x.conn.0 x.client.0 (arguments x)
+
+  abbrev pub two : Rows
+  two st = control_rows x.conn.0 st ++ later_rows (arguments x)
+
+  abbrev pub three : Rows
+  three st = two st ++ endpoint_rows st x.conn.0 x.client.0
+
+  abbrev pub four : Rows
+  four st = three st ++ stream_row x st
+
+  abbrev pub five : Rows
+  five st = four st ++ argument_rows (arguments x)
+
+  abbrev pub six : Rows
+  six st = five st ++ own_format_rows x st
+
+  abbrev behind_five : Rows
+  behind_five st = own_format_rows x st ++ own_session_rows x st
+
+  abbrev behind_four : Rows
+  behind_four st = argument_rows (arguments x) ++ behind_five st
+
+  abbrev behind_three : Rows
+  behind_three st = stream_row x st ++ behind_four st
+
+  abbrev behind_two : Rows
+  behind_two st = endpoint_rows st x.conn.0 x.client.0 ++ behind_three st
+
+  abbrev behind_one : Rows
+  behind_one st = later_rows (arguments x) ++ behind_two st
+
+module _ {D E : Type 0} (b : Board D E) (x : Asked) where
+  pub past_later : Says b (control_rows x.conn.0) None → first (later_rows (arguments x)) ≡ None → Says b (two x) None
+  past_later passes says =
+      says_later b (control_rows x.conn.0) (λ st. later_rows (arguments x)) None passes (λ datas tally. says)
+
+  pub past_endpoint : (at : ℕ) → FindsEndpoint x.conn.0 x.client.0 b at → Says b (two x) None → Says b (three x) None
+  past_endpoint at found passes =
+      says_later b (two x) (λ st. endpoint_rows st x.conn.0 x.client.0) None passes found.says
+
+  pub past_stream : find (is_entry_of x.client.0) b.entries.items ≡ None → Says b (three x) None →
+      Says b (four x) None
+  past_stream none passes = says_later b (three x) (stream_row x) None passes (stream_says b x none)
+
+  pub past_arguments : first (argument_rows (arguments x)) ≡ None → Says b (four x) None → Says b (five x) None
+  past_arguments says passes =
+      says_later b (four x) (λ st. argument_rows (arguments x)) None passes (λ datas tally. says)
+
+  pub past_format : Says b (own_format_rows x) None → Says b (five x) None → Says b (six x) None
+  past_format says passes = says_later b (five x) (own_format_rows x) None passes says
+
+  pub past_session : Says b (own_session_rows x) None → Says b (six x) None → Says b (all_rows x) None
+  past_session says passes = says_later b (six x) (own_session_rows x) None passes says
+
+  -- past the rows before those of the format
+  pub past_five : (process at : ℕ) → Some process ≡ process_in x.conn.0 b.book →
+      first (later_rows (arguments x)) ≡ None → FindsEndpoint x.conn.0 x.client.0 b at →
+      find (is_entry_of x.client.0) b.entries.items ≡ None → first (argument_rows (arguments x)) ≡ None →
+      Says b (five x) None
+  past_five process at connected later found none says =
+      past_arguments says (past_stream none (past_endpoint at found
+      (past_later (connected_says b x process connected) later)))
+
+  pub at_control : Says b (control_rows x.conn.0) (Some hr.E_HANDLE) → Says b (all_rows x) (Some hr.E_HANDLE)
+  at_control says = says_front b (control_rows x.conn.0) (behind_one x) hr.E_HANDLE says
+
+  pub at_later : (code : Hr) → first (later_rows (arguments x)) ≡ Some code →
+      Says b (control_rows x.conn.0) None → Says b (all_rows x) (Some code)
+  at_later code says passes = says_front b (two x) (behind_two x) code
+      (says_later b (control_rows x.conn.0) (λ st. later_rows (arguments x)) (Some code) passes (λ datas tally. says))
+
+  pub at_endpoint : (code : Hr) → Says b (λ st. endpoint_rows st x.conn.0 x.client.0) (Some code) →
+      Says b (two x) None → Says b (all_rows x) (Some code)
+  at_endpoint code says passes = says_front b (three x) (behind_three x) code
+      (says_later b (two x) (λ st. endpoint_rows st x.conn.0 x.client.0) (Some code) passes says)
+
+  pub at_stream : (code : Hr) → Says b (stream_row x) (Some code) → Says b (three x) None →
+      Says b (all_rows x) (Some code)
+  at_stream code says passes = says_front b (four x) (behind_four x) code
+      (says_later b (three x) (stream_row x) (Some code) passes says)
+
+  pub at_arguments : (code : Hr) → first (argument_rows (arguments x)) ≡ Some code → Says b (four x) None →
+      Says b (all_rows x) (Some code)
+  at_arguments code says passes = says_front b (five x) (behind_five x) code
+      (says_later b (four x) (λ st. argument_rows (arguments x)) (Some code) passes (λ datas tally. says))
+
+  pub at_format : (code : Hr) → Says b (own_format_rows x) (Some code) → Says b (five x) None →
+      Says b (all_rows x) (Some code)
+  at_format code says passes = says_front b (six x) (own_session_rows x) code
+      (says_later b (five x) (own_format_rows x) (Some code) passes says)
+
+  pub at_session : (code : Hr) → Says b (own_session_rows x) (Some code) → Says b (six x) None →
+      Says b (all_rows x) (Some code)
+  at_session code says passes = says_later b (six x) (own_session_rows x) (Some code) passes says
+
+-- a refused one does nothing
+pub opening_refused : {D E : Type 0} (faults : D → ℕ) (told : D → Option (List DeviceLog))
+    (moves : E → List Step → E → Type 0) (stays : (a : E) → moves a [] a) (b : Board D E) (x : Asked) (code : Hr) →
+    Says b (all_rows x) (Some code) → Does faults told moves None AnyData b b (opening_plan x) code []
+opening_refused faults told moves stays b x code says =
+    refused_does faults told moves None AnyData stays b (opening_plan x) code says

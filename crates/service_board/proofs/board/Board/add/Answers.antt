@@ -1,0 +1,90 @@
+use Rattle.std.proofs.Common.{◌*◌, ap, sym, None, arith, refl}
+use Rattle.std.proofs.lemmas.Result.{err_from_is_err_and}
+use Rattle.ca_machine.specs.Devices.{add_plan, new_endpoint}
+use Rattle.wave_format.specs.declared.format.Format.{Format}
+use Rattle.wave_format.proofs.FormatLaws.{read-valid}
+use Rattle.service_board.specs.Does.{AnyData}
+use Rattle.service_board.proofs.AddDoes.{add_does, added_order, free_to_add, no_memory}
+use Rattle.service_board.proofs.AddRows.{read_is}
+use Rattle.service_board.proofs.Doing.{refused_does}
+use Rattle.service_board.proofs.DuePeriods.{seats_length}
+use Rattle.service_board.proofs.board.Board.add.Goals as goal
+
+pub returns-in_err-format-clause-does : goal.returns-in_err-format-clause-does
+returns-in_err-format-clause-does g c =
+    let p = err_from_is_err_and c.from_residual.result c.from_residual.ensures.1 in
+    rw (p.1, p.2) (refused_does g.D.Devices.faults g.D.Devices.told g.E.EngineSide.moves None AnyData
+    g.met.E.EngineSide.none c.args.self.now
+    (λ st. add_plan st c.args.number.0 c.args.flow c.args.format.now c.args.name.now) c.in_err-format.field-0.0
+    c.in_err-format.ensures.refused)
+
+pub returns-in_default-clause-does : goal.returns-in_default-clause-does
+returns-in_default-clause-does g c =
+    no_memory g.E.EngineSide.state c.args.self.now c.requires.order c.args.number.0 c.args.flow c.args.format.now
+    c.args.name.now c.in_ok-format.ensures.free g.D.Devices.faults g.D.Devices.told g.E.EngineSide.moves
+    g.met.E.EngineSide.none
+
+pub push_reserved-requires : goal.push_reserved-requires
+push_reserved-requires g c =
+    let free =
+    free_to_add g.E.EngineSide.state c.args.self.now c.requires.order c.args.number.0 c.args.flow c.args.format.now
+    c.args.name.now c.in_ok-format.ensures.free in
+    let room = c.requires.order.book.rooms.endpoints in
+    omega (arith, free.0)
+
+pub push_reserved-requires-2 : goal.push_reserved-requires-2
+push_reserved-requires-2 g c =
+    let free =
+    free_to_add g.E.EngineSide.state c.args.self.now c.requires.order c.args.number.0 c.args.flow c.args.format.now
+    c.args.name.now c.in_ok-format.ensures.free in
+    let room = c.requires.order.seat_room in
+    let same =
+    seats_length c.args.self.now.seats.items c.args.self.now.book.endpoints.items c.requires.order.seats in
+    omega (arith, free.0)
+
+pub returns-clause-does : goal.returns-clause-does
+returns-clause-does g c =
+    let b = c.args.self.now in
+    let number = c.args.number.0 in
+    let bytes = c.args.format.now in
+    let format = c.in_ok-format.format in
+    add_does g.E.EngineSide.state b c.requires.order number c.args.flow bytes c.args.name.now
+    c.in_ok-format.ensures.free
+    (record b {
+      book = record (b.book) { endpoints = c.push_reserved.new.self; last_endpoint = number };
+      seats = c.push_reserved-2.new.self;
+    })
+    (record (new_endpoint number bytes c.args.name.now) { format = format })
+    (record { endpoint = c.args.number; next = 0; block = c.in-Ok.block }) c.push_reserved.ensures.items
+    c.push_reserved-2.ensures.items
+    (ap (λ (f : Format). record (new_endpoint number bytes c.args.name.now) { format = f })
+    (read_is bytes format c.in_ok-format.ensures.format).1)
+    refl g.D.Devices.faults g.D.Devices.told g.E.EngineSide.moves g.met.E.EngineSide.none
+
+pub returns-clause-order : goal.returns-clause-order
+returns-clause-order g c =
+    let b = c.args.self.now in
+    let number = c.args.number.0 in
+    let bytes = c.args.format.now in
+    let format = c.in_ok-format.format in
+    added_order g.E.EngineSide.state b c.requires.order number c.args.flow bytes c.args.name.now
+    c.in_ok-format.ensures.free
+    (record b {
+      book = record (b.book) { endpoints = c.push_reserved.new.self; last_endpoint = number };
+      seats = c.push_reserved-2.new.self;
+    })
+    (record (new_endpoint number bytes c.args.name.now) { format = format })
+    (record { endpoint = c.args.number; next = 0; block = c.in-Ok.block }) c.push_reserved.ensures.items
+    c.push_reserved-2.ensures.items
+    (ap (λ (f : Format). record (new_endpoint number bytes c.args.name.now) { format = f })
+    (read_is bytes format c.in_ok-format.ensures.format).1)
+    refl c.push_reserved.ensures.capacity c.push_reserved-2.ensures.capacity
+    (record {
+      number = refl;
+      next = omega arith;
+      block =
+          let size = c.in-Ok.ensures in
+          let frames = ap (λ n. n * format.channels) (sym c.period_frames.ensures) in
+          omega (arith, size, frames);
+      format = read-valid bytes format c.in_ok-format.ensures.format;
+    })

@@ -1,0 +1,145 @@
+use Rattle.std.proofs.Common.{None, sym}
+use Rattle.std.proofs.lemmas.Result.{err_from_is_err_and}
+use Rattle.ca_base.specs.declared.codes.TheConstants.Hr as hr
+use Rattle.service_board.proofs.Planning.{
+  at_arguments,
+  at_control,
+  at_endpoint,
+  at_format,
+  at_later,
+  at_session,
+  at_stream,
+  connected_says,
+  format_says,
+  no_entry,
+  number_read,
+  opening_refused,
+  past_endpoint,
+  past_five,
+  past_format,
+  past_later,
+  past_session,
+  past_stream,
+  read_endpoint,
+  session_says,
+  stream_refuses,
+  there_read,
+  unconnected_says,
+  within,
+}
+use Rattle.service_board.proofs.board.Board.plan_initialize.Goals as goal
+
+pub returns-in_default-clause-refused : goal.returns-in_default-clause-refused
+returns-in_default-clause-refused g c =
+    opening_refused g.D.Devices.faults g.D.Devices.told g.E.EngineSide.moves g.met.E.EngineSide.none c.args.self.now
+    c.args.x.now hr.E_HANDLE
+    (at_control c.args.self.now c.args.x.now (unconnected_says c.args.self.now c.args.x.now c.in_default.ensures))
+
+pub returns-in_err-check_later-clause-refused : goal.returns-in_err-check_later-clause-refused
+returns-in_err-check_later-clause-refused g c =
+    let p = err_from_is_err_and c.from_residual.result c.from_residual.ensures.1 in
+    rw (p.1, p.2) (opening_refused g.D.Devices.faults g.D.Devices.told g.E.EngineSide.moves g.met.E.EngineSide.none
+    c.args.self.now c.args.x.now c.in_err-check_later.field-0.0
+    (at_later c.args.self.now c.args.x.now c.in_err-check_later.field-0.0 c.in_err-check_later.ensures
+    (connected_says c.args.self.now c.args.x.now c.in-Some.process c.in-Some.ensures)))
+
+pub returns-in_err-place-clause-refused : goal.returns-in_err-place-clause-refused
+returns-in_err-place-clause-refused g c =
+    let p = err_from_is_err_and c.from_residual-in_err-place.result c.from_residual-in_err-place.ensures.1 in
+    rw (p.1, p.2) (opening_refused g.D.Devices.faults g.D.Devices.told g.E.EngineSide.moves g.met.E.EngineSide.none
+    c.args.self.now c.args.x.now c.in_err-place.field-0.0
+    (at_endpoint c.args.self.now c.args.x.now c.in_err-place.field-0.0 c.in_err-place.ensures.refused
+    (past_later c.args.self.now c.args.x.now
+    (connected_says c.args.self.now c.args.x.now c.in-Some.process c.in-Some.ensures) c.in_ok-check_later.ensures)))
+
+pub returns-then-is_some-clause-refused : goal.returns-then-is_some-clause-refused
+returns-then-is_some-clause-refused g c =
+    opening_refused g.D.Devices.faults g.D.Devices.told g.E.EngineSide.moves g.met.E.EngineSide.none c.args.self.now
+    c.args.x.now hr.ALREADY_INITIALIZED
+    (at_stream c.args.self.now c.args.x.now hr.ALREADY_INITIALIZED
+    (stream_refuses c.args.self.now c.args.x.now c.entry_place.result c.entry_place.ensures (sym c.if-is_some.ensures))
+    (past_endpoint c.args.self.now c.args.x.now c.in_ok-place.place c.in_ok-place.ensures.found
+    (past_later c.args.self.now c.args.x.now
+    (connected_says c.args.self.now c.args.x.now c.in-Some.process c.in-Some.ensures) c.in_ok-check_later.ensures)))
+
+pub returns-in_err-check_arguments-clause-refused :
+    goal.returns-in_err-check_arguments-clause-refused
+returns-in_err-check_arguments-clause-refused g c =
+    let p = err_from_is_err_and c.from_residual-in_err-check_arguments.result
+    c.from_residual-in_err-check_arguments.ensures.1 in
+    let b = c.args.self.now in
+    let x = c.args.x.now in
+    let none = no_entry b x c.entry_place.result c.entry_place.ensures (sym c.if-is_some.ensures) in
+    rw (p.1, p.2) (opening_refused g.D.Devices.faults g.D.Devices.told g.E.EngineSide.moves g.met.E.EngineSide.none b x
+    c.in_err-check_arguments.field-0.0
+    (at_arguments b x c.in_err-check_arguments.field-0.0 c.in_err-check_arguments.ensures
+    (past_stream b x none
+    (past_endpoint b x c.in_ok-place.place c.in_ok-place.ensures.found
+    (past_later b x (connected_says b x c.in-Some.process c.in-Some.ensures) c.in_ok-check_later.ensures)))))
+
+pub index-endpoint-requires : goal.index-endpoint-requires
+index-endpoint-requires g c = within c.args.self.now c.args.x.now c.in_ok-place.place c.in_ok-place.ensures.found
+
+pub returns-in_err-format-clause-refused : goal.returns-in_err-format-clause-refused
+returns-in_err-format-clause-refused g c =
+    let p = err_from_is_err_and c.from_residual-in_err-format.result c.from_residual-in_err-format.ensures.1 in
+    let b = c.args.self.now in
+    let x = c.args.x.now in
+    let at = c.in_ok-place.place in
+    let found = c.in_ok-place.ensures.found in
+    let e = c.index-endpoint.result.now in
+    let same = read_endpoint b x at found e c.index-endpoint.ensures in
+    let none = no_entry b x c.entry_place.result c.entry_place.ensures (sym c.if-is_some.ensures) in
+    rw (p.1, p.2) (opening_refused g.D.Devices.faults g.D.Devices.told g.E.EngineSide.moves g.met.E.EngineSide.none b x
+    c.in_err-format.field-0.0
+    (at_format b x c.in_err-format.field-0.0 (format_says b x at found e same _ c.in_err-format.ensures.says)
+    (past_five b x c.in-Some.process at c.in-Some.ensures c.in_ok-check_later.ensures found none
+    c.in_ok-check_arguments.ensures)))
+
+pub returns-in_err-session-clause-refused : goal.returns-in_err-session-clause-refused
+returns-in_err-session-clause-refused g c =
+    let p = err_from_is_err_and c.from_residual-in_err-session.result c.from_residual-in_err-session.ensures.1 in
+    let b = c.args.self.now in
+    let x = c.args.x.now in
+    let at = c.in_ok-place.place in
+    let found = c.in_ok-place.ensures.found in
+    let e = c.index-endpoint.result.now in
+    let same = read_endpoint b x at found e c.index-endpoint.ensures in
+    let none = no_entry b x c.entry_place.result c.entry_place.ensures (sym c.if-is_some.ensures) in
+    rw (p.1, p.2) (opening_refused g.D.Devices.faults g.D.Devices.told g.E.EngineSide.moves g.met.E.EngineSide.none b x
+    c.in_err-session.field-0.0
+    (at_session b x c.in_err-session.field-0.0
+    (session_says b x at found e same c.in-Some.process c.in-Some.ensures _ c.in_err-session.ensures.says)
+    (past_format b x (format_says b x at found e same None c.in_ok-format.ensures.says)
+    (past_five b x c.in-Some.process at c.in-Some.ensures c.in_ok-check_later.ensures found none
+    c.in_ok-check_arguments.ensures))))
+
+pub returns-clause-planned : goal.returns-clause-planned
+returns-clause-planned g c =
+    let b = c.args.self.now in
+    let x = c.args.x.now in
+    let at = c.in_ok-place.place in
+    let found = c.in_ok-place.ensures.found in
+    let e = c.index-endpoint.result.now in
+    let same = read_endpoint b x at found e c.index-endpoint.ensures in
+    let none = no_entry b x c.entry_place.result c.entry_place.ensures (sym c.if-is_some.ensures) in
+    record {
+      named = found.named;
+      found = found.found;
+      client_is = found.client_is;
+      on = number_read b x at found e same;
+      endpoint = e;
+      there = there_read b x at found e same;
+      fresh = none;
+      process = sym c.in-Some.ensures;
+      format = c.in_ok-format.ensures.format;
+      buffer = c.shared_buffer.ensures.frames;
+      some = c.shared_buffer.ensures.some;
+      most = c.shared_buffer.ensures.most;
+      session = c.in_ok-session.ensures.session;
+      says = past_session b x
+          (session_says b x at found e same c.in-Some.process c.in-Some.ensures None c.in_ok-session.ensures.says)
+          (past_format b x (format_says b x at found e same None c.in_ok-format.ensures.says)
+          (past_five b x c.in-Some.process at c.in-Some.ensures c.in_ok-check_later.ensures found none
+          c.in_ok-check_arguments.ensures));
+    }

@@ -1,0 +1,77 @@
+-- What holds of a board between events (this project's own).
+use Rattle.std.specs.Prelude.{◌≡◌, ℕ, ◌*◌, ◌≤◌, ◌==◌, List, [], ◌∷◌, length, map, Bool, Some}
+use Rattle.std.specs.List.{All, AllZip, find}
+use Rattle.std.specs.Option.{option_map_or}
+use Rattle.std.specs.Vec.{vec_capacity}
+use Rattle.ca_base.specs.declared.ids.StreamKind.TheVariants.{Render}
+use Rattle.ca_base.specs.declared.limits.TheConstants.{CLIENTS, CONNECTIONS, ENDPOINTS, SESSIONS, MAX_COUNT}
+use Rattle.wave_format.specs.Format.{IsValid}
+use Rattle.volume_stack.specs.Scaling.{unit_gain}
+use Rattle.buffer_ring.specs.declared.step.EndState.{EndState}
+use Rattle.ca_stage.specs.Order.{RisesFrom}
+use Rattle.ca_machine.specs.declared.state.Client.{Client}
+use Rattle.ca_machine.specs.declared.state.Endpoint.{Endpoint}
+use Rattle.ca_machine.specs.State.{is_endpoint, live_clients}
+use Rattle.ca_machine.specs.Periods.{period_frames}
+use Rattle.period_engine.specs.declared.entry.StreamEntry.{StreamEntry}
+use Rattle.period_engine.specs.Entries.{AreInOrder, IsRested}
+use Rattle.service_board.specs.declared.board.Board.{Board}
+use Rattle.service_board.specs.declared.board.Seat.{Seat}
+use Rattle.service_board.specs.declared.book.Book.{Book}
+
+-- the tables have the room of their limits
+pub record HasRooms (b : Book) : Type 0 where
+  pub connections : CONNECTIONS ≤ vec_capacity b.connections
+  pub clients : CLIENTS ≤ vec_capacity b.clients
+  pub endpoints : ENDPOINTS ≤ vec_capacity b.endpoints
+  pub sessions : SESSIONS ≤ vec_capacity b.sessions
+
+-- numbers of clients and endpoints rise, up to the last one given, and counts are in range
+pub record IsBook (b : Book) : Type 0 where
+  pub rooms : HasRooms b
+  pub clients : RisesFrom 0 (live_clients b.clients.items)
+  pub few_clients : length b.clients.items ≤ CLIENTS
+  pub made : All (λ c. c.client.0 ≤ b.clients_made) b.clients.items
+  pub clients_made : b.clients_made ≤ MAX_COUNT
+  pub endpoints : RisesFrom 0 (map (λ e. e.endpoint.0) b.endpoints.items)
+  pub added : All (λ e. e.endpoint.0 ≤ b.last_endpoint) b.endpoints.items
+  pub sessions_made : b.sessions_made ≤ MAX_COUNT
+
+-- a seat is that of an endpoint: its next place is in range, and a period fits in its scratch
+pub record Seats (seat : Seat) (e : Endpoint) : Type 0 where
+  pub number : seat.endpoint.0 ≡ e.endpoint.0
+  pub next : seat.next ≤ MAX_COUNT
+  pub block : period_frames e * e.format.channels ≤ seat.block.samples
+  pub format : IsValid e.format
+
+-- a seat of an endpoint's number
+abbrev pub is_seat : ℕ → Seat → Bool
+is_seat number s = s.endpoint.0 == number
+
+-- the next place of an endpoint's seat
+abbrev pub next_at : ℕ → List Seat → ℕ
+next_at number seats = option_map_or (λ s. s.next) (find (is_seat number) seats) 0
+
+-- an entry is that of a live client, on the client's endpoint, with the endpoint's channels and gains that change
+-- nothing; its stream renders, and its position isn't beyond the endpoint's next place
+pub record Belongs {E : Type 0} (book : Book) (seats : List Seat) (e : StreamEntry E) : Type 0 where
+  pub client : Client
+  pub live : find (λ c. c.client.0 == e.client.0) book.clients.items ≡ Some client
+  pub on : client.endpoint.0 ≡ e.endpoint.0
+  pub endpoint : Endpoint
+  pub there : find (is_endpoint e.endpoint.0) book.endpoints.items ≡ Some endpoint
+  pub channels : e.channels ≡ endpoint.format.channels
+  pub gains : e.gains ≡ unit_gain ∷ unit_gain ∷ unit_gain ∷ unit_gain ∷ []
+  pub renders : e.kind ≡ Render
+  pub position : e.position ≤ next_at e.endpoint.0 seats
+
+-- a board between events: entries stand in rising order of their clients' numbers, nothing is picked, and the tables
+-- fit one another
+pub record InOrder {D E : Type 0} (state : E → EndState) (b : Board D E) : Type 0 where
+  pub order : AreInOrder b.entries.items
+  pub rested : All (IsRested state) b.entries.items
+  pub belong : All (Belongs b.book b.seats.items) b.entries.items
+  pub seats : AllZip Seats b.seats.items b.book.endpoints.items
+  pub book : IsBook b.book
+  pub room : CLIENTS ≤ vec_capacity b.entries
+  pub seat_room : ENDPOINTS ≤ vec_capacity b.seats

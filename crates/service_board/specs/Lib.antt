@@ -1,0 +1,13 @@
+pub mod Board
+pub mod InOrder
+pub mod Does
+pub mod Answers
+pub mod Calls
+pub mod Lookups
+pub mod New
+pub mod Plays
+pub mod Due
+pub mod StreamCalls
+pub mod Leaving
+pub mod Formats
+pub mod Openings

@@ -1,0 +1,179 @@
+-- What an Initialize asks for and opens, as the code has it (this project's own).
+use Rattle.std.specs.Prelude.{◌≡◌, ℕ, ◌+◌, ◌<◌, ◌≤◌, ◌||◌, not, nat_le}
+use Rattle.std.specs.Prelude.{nat_lt, List, [], ◌∷◌, ◌++◌, length, Bool, false, Option}
+use Rattle.std.specs.Prelude.{Some, None}
+use Rattle.std.specs.Option.{option_map}
+use Rattle.std.specs.List.{find, insert}
+use Rattle.std.specs.Vec.{vec_capacity}
+use Rattle.ca_base.specs.declared.codes.Hr.{Hr}
+use Rattle.ca_base.specs.declared.codes.TheConstants.Hr as hr
+use Rattle.ca_base.specs.declared.ids.Dir.TheVariants as dir
+use Rattle.ca_base.specs.declared.ids.Gate.TheVariants as gate
+use Rattle.ca_base.specs.declared.ids.StreamKind.TheVariants as kind
+use Rattle.ca_base.specs.declared.ids.SessionNo.{SessionNo}
+use Rattle.ca_base.specs.declared.limits.TheConstants.{MAX_COUNT, MAX_STORE_WORDS, SESSIONS, SHARED_PERIOD}
+use Rattle.ca_base.specs.declared.values.TheConstants.{SHARE_EXCLUSIVE}
+use Rattle.ca_base.specs.Rows.{Row}
+use Rattle.wave_format.specs.declared.format.Format.{Format}
+use Rattle.wave_format.specs.Format.{IsValid, frames_of_time, spelled}
+use Rattle.volume_stack.specs.Scaling.{unit_gain}
+use Rattle.buffer_ring.specs.declared.step.EndState.{EndState}
+use Rattle.ca_stage.specs.Stage.{BufferData, no_data}
+use Rattle.ca_machine.specs.declared.state.Client.{Client}
+use Rattle.ca_machine.specs.declared.state.Endpoint.{Endpoint}
+use Rattle.ca_machine.specs.declared.state.Session.{Session}
+use Rattle.ca_machine.specs.State.{State, is_client_of, is_connection, is_endpoint, is_session}
+use Rattle.ca_machine.specs.Plan.{Plan}
+use Rattle.ca_machine.specs.Streams.{
+  Opening,
+  has_other_flag,
+  if_new,
+  initialize_plan,
+  initialize_rows,
+  is_faulty,
+  is_malformed,
+  is_too_long,
+  matches,
+  new_session,
+  shared_buffer,
+}
+use Rattle.period_engine.specs.declared.entry.StreamEntry.{StreamEntry}
+use Rattle.service_board.specs.Lookups.{Says, is_entry_of}
+use Rattle.service_board.specs.declared.board.Board.{Board}
+use Rattle.service_board.specs.declared.book.Book.{Book}
+use Rattle.service_board.specs.declared.opening.Opening.{Opening as Asked}
+use Rattle.service_board.specs.declared.opening.OpeningPlan.{OpeningPlan}
+
+-- the arguments of an Initialize, as the machine has them
+abbrev pub arguments : Asked → Opening
+arguments x = record {
+  share = x.share;
+  flags = x.flags;
+  duration = x.duration;
+  period = x.period;
+  format = x.format.now;
+  session = x.session.0;
+}
+
+-- the share mode, flags or times are ones that there aren't
+abbrev pub argument_rows : Opening → List (Row Hr)
+argument_rows x = (
+  nat_lt SHARE_EXCLUSIVE x.share
+      || (has_other_flag x.flags || (is_too_long x.duration || is_too_long x.period)),
+  hr.E_INVALIDARG,
+)
+    ∷ []
+
+-- the format isn't that of an endpoint with this one
+abbrev pub format_rows : Format → Opening → List (Row Hr)
+format_rows endpoint x =
+    (is_malformed x.format, hr.E_INVALIDARG)
+    ∷ (is_faulty x.format || not (matches endpoint (spelled x.format)), hr.UNSUPPORTED_FORMAT)
+    ∷ []
+
+-- the format that was asked for, which the endpoint's matches
+pub record HasFormat (endpoint : Format) (x : Asked) (format : Format) : Type 0 where
+  pub spells : format ≡ spelled x.format.now
+  pub valid : IsValid format
+  pub channels : format.channels ≡ endpoint.channels
+
+-- the entry of a stream as it is opened
+abbrev pub new_entry : {E : Type 0} → Asked → OpeningPlan → SessionNo → E → StreamEntry E
+new_entry x plan session store = record {
+  client = x.client;
+  endpoint = plan.endpoint;
+  kind = kind.Render;
+  exclusive = false;
+  event = false;
+  channels = plan.format.channels;
+  rate = plan.format.rate;
+  buffer = plan.buffer;
+  period = frames_of_time plan.format.rate SHARED_PERIOD;
+  store = store;
+  room = plan.buffer;
+  latency = SHARED_PERIOD;
+  session = session;
+  gate = gate.Open;
+  running = false;
+  picked = 0;
+  position = 0;
+  gains = unit_gain ∷ unit_gain ∷ unit_gain ∷ unit_gain ∷ [];
+}
+
+-- an entry of a greater client number
+abbrev pub is_above : {E : Type 0} → ℕ → StreamEntry E → Bool
+is_above client e = nat_lt client e.client.0
+
+-- the table of an Initialize
+abbrev pub opening_plan : Asked → State → Plan
+opening_plan x st = initialize_plan st x.conn.0 x.client.0 (arguments x)
+
+-- the process of an open connection
+abbrev pub process_in : ℕ → Book → Option ℕ
+process_in conn book = option_map (λ c. c.process) (find (is_connection conn) book.connections.items)
+
+-- the session of an endpoint, a process and a GUID, if it is there
+abbrev pub session_in : ℕ → ℕ → ℕ → Book → Option Session
+session_in endpoint process guid book = find (is_session endpoint process guid) book.sessions.items
+
+-- a new session is needed, and can't be made
+abbrev pub session_rows : Option Session → Book → List (Row Hr)
+session_rows session book =
+    (if_new session (nat_le SESSIONS (length book.sessions.items)), hr.SESSIONS_FULL)
+    ∷ (if_new session (nat_le MAX_COUNT book.sessions_made), hr.WORN)
+    ∷ []
+
+-- a number of a session that is there, or there is none and one may be made
+abbrev pub HasSession : Option Session → Book → Option SessionNo → Type 0
+HasSession (Some session) book number = number ≡ Some session.session
+HasSession None book number =
+    (number ≡ None) × (length book.sessions.items < SESSIONS) × (book.sessions_made < MAX_COUNT)
+
+-- what an Initialize opens that no row but want of memory refuses: the client of the call, which has no stream yet, on
+-- its endpoint, which has the format; and the process and the session that its rows found
+pub record Plans {D E : Type 0} (x : Asked) (b : Board D E) (plan : OpeningPlan) : Type 0 where
+  pub named : Client
+  pub found : find (is_client_of x.conn.0 x.client.0) b.book.clients.items ≡ Some named
+  pub client_is : named.client.0 ≡ x.client.0
+  pub on : named.endpoint.0 ≡ plan.endpoint.0
+  pub endpoint : Endpoint
+  pub there : find (is_endpoint plan.endpoint.0) b.book.endpoints.items ≡ Some endpoint
+  pub fresh : find (is_entry_of x.client.0) b.entries.items ≡ None
+  pub process : process_in x.conn.0 b.book ≡ Some plan.process
+  pub format : HasFormat endpoint.format x plan.format
+  pub buffer : plan.buffer ≡ shared_buffer plan.format.rate x.duration
+  pub some : 1 ≤ plan.buffer
+  pub most : plan.buffer ≤ MAX_STORE_WORDS
+  pub session : HasSession (session_in plan.endpoint.0 plan.process x.session.0 b.book) b.book plan.session
+  pub says : Says b (λ st. initialize_rows st x.conn.0 x.client.0 (arguments x)) None
+
+-- the engine's end of a new store of this size: it renders, its gate is open, and nothing was seen there
+abbrev pub IsNewStore : {E : Type 0} → (E → EndState) → ℕ → E → Type 0
+IsNewStore state cap store = state store ≡ record { cap = cap; dir = dir.Render; gate = gate.Open; seen = 0 }
+
+-- nothing was ever released for a client
+abbrev pub IsFresh : ℕ → (ℕ → BufferData) → Type 0
+IsFresh client datas = datas client ≡ no_data
+
+-- a new session stands last in the book, and nothing else is new but the count
+pub record OpensSession (x : Asked) (plan : OpeningPlan) (old : Book) (session : ℕ) (new : Book) : Type 0 where
+  pub number : session ≡ old.sessions_made + 1
+  pub sessions :
+      new.sessions.items ≡ old.sessions.items ++ new_session session plan.endpoint.0 plan.process x.session.0 ∷ []
+  pub room : vec_capacity old.sessions ≤ vec_capacity new.sessions
+  pub rest : new ≡ record old { sessions = new.sessions; sessions_made = session }
+
+-- a stream joins the session that was found, or a new one
+abbrev pub Joins : Option SessionNo → Asked → OpeningPlan → Book → SessionNo → Book → Type 0
+Joins (Some found) x plan old session new = (session ≡ found) × (new ≡ old)
+Joins None x plan old session new = OpensSession x plan old session.0 new
+
+-- the entries with that of a stream as it is opened, in the store that was given
+pub record Enters {E : Type 0} (x : Asked) (plan : OpeningPlan) (given : Option E) (old new : List (StreamEntry E))
+    : Type 0
+  where
+    pub place : ℕ
+    pub session : SessionNo
+    pub store : E
+    pub given_is : given ≡ Some store
+    pub entries : new ≡ insert old place (new_entry x plan session store)

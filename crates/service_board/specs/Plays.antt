@@ -1,0 +1,76 @@
+-- What a period of an endpoint makes of entries (this project's own).
+use Rattle.std.specs.Prelude.{◌≡◌, ℕ, ◌+◌, ◌≤◌, ◌==◌, ◌&&◌, List, [], ◌∷◌, map, Bool, true, false, None, if◌then◌else◌}
+use Rattle.std.specs.Prelude.{Option}
+use Rattle.std.specs.List.{All, AllZip}
+use Rattle.device_io.specs.DeviceLog.{DeviceLog}
+use Rattle.ca_base.specs.declared.ids.Reason.TheVariants.{Removal}
+use Rattle.volume_stack.specs.Scaling.{unit_gain}
+use Rattle.buffer_ring.specs.declared.step.EndState.{EndState}
+use Rattle.buffer_ring.specs.declared.step.Step.{Step}
+use Rattle.ca_stage.specs.Stage.{Stream, BufferData}
+use Rattle.ca_stage.specs.Moves.{Mixing, closed, moved, is_open_on}
+use Rattle.ca_stage.specs.Mix.{sound_bytes}
+use Rattle.period_engine.specs.declared.entry.StreamEntry.{StreamEntry}
+use Rattle.period_engine.specs.Agreement.{Agrees, AllAgree, data_after}
+use Rattle.period_engine.specs.Entries.{HasRoom, IsRested, stream_with, streams_of}
+use Rattle.period_engine.specs.Offers.{Offers}
+use Rattle.period_engine.specs.Sounds.{MixesThese}
+use Rattle.period_engine.specs.SubSteps.{IsSameEntry, picks_on, retires_on}
+use Rattle.service_board.specs.Does.{store_at}
+
+-- a close of those streams that are open on an endpoint
+abbrev pub closes_on : ℕ → Stream → Stream
+closes_on number s = if is_open_on number s then moved (closed Removal) s else s
+
+-- what follows a Sound: what was picked is rendered, or the device failed and the endpoint's streams are closed
+abbrev pub ends_on : ℕ → Bool → Stream → Stream
+ends_on number true s = retires_on number s
+ends_on number false s = closes_on number s
+
+-- what a period of an endpoint makes of a stream
+abbrev pub plays_on : ℕ → ℕ → Bool → Stream → Stream
+plays_on number frames whole s = ends_on number whole (picks_on number frames s)
+
+-- an entry that a period may play: its position has room for the period, on the endpoint it has the endpoint's
+-- channels, and its gains are in range
+pub record IsPlayable {E : Type 0} (state : E → EndState) (number frames channels : ℕ) (e : StreamEntry E) : Type 0
+  where
+    pub rested : IsRested state e
+    pub counts : HasRoom number frames e
+    pub fits : e.endpoint.0 ≡ number → e.channels ≡ channels
+    pub gains : All (λ gain. gain ≤ unit_gain) e.gains
+
+-- an entry went on as f moves its stream, by these steps of its store, for all data that agree with them
+pub record GoesBy {E : Type 0} (moves : E → List Step → E → Type 0) (f : Stream → Stream) (steps : List Step)
+    (a b : StreamEntry E) : Type 0 where
+  pub same : IsSameEntry a b
+  pub made : moves a.store steps b.store
+  pub turns : (d : BufferData) → Agrees a.channels steps d →
+      f (stream_with d a) ≡ stream_with (data_after a.channels steps d) b
+
+-- entry by entry, each by its client's steps
+abbrev pub AllGo : {E : Type 0} → (E → List Step → E → Type 0) → (Stream → Stream) → (ℕ → List Step)
+    → List (StreamEntry E) → List (StreamEntry E) → Type 0
+AllGo moves f steps [] [] = Unit {0}
+AllGo moves f steps (a ∷ xs) (b ∷ ys) = GoesBy moves f (steps a.client.0) a b × AllGo moves f steps xs ys
+AllGo moves f steps [] (b ∷ ys) = ⊥
+AllGo moves f steps (a ∷ xs) [] = ⊥
+
+-- a position rises by a period's frames at most, and only on its endpoint if the device took all
+abbrev pub StaysNear : {E : Type 0} → ℕ → ℕ → Bool → StreamEntry E → StreamEntry E → Type 0
+StaysNear number frames whole a b =
+    b.position ≤ a.position + (if whole && a.endpoint.0 == number then frames else 0)
+
+-- A period of an endpoint over entries. By steps of their stores, and of no other client, they went on as the period
+-- moves their streams; what was picked was mixed by any mixing of these gains, and offered to the endpoint's device.
+pub record Plays {E : Type 0} (moves : E → List Step → E → Type 0) (number frames : ℕ) (ends : List ℕ) (whole : Bool)
+    (old new : List (StreamEntry E)) (faults : ℕ) (told : Option (List DeviceLog)) (faults' : ℕ)
+    (told' : Option (List DeviceLog)) : Type 0 where
+  pub steps : ℕ → List Step
+  pub went : AllGo moves (plays_on number frames whole) steps old new
+  pub none : (client : ℕ) → store_at client old ≡ None → steps client ≡ []
+  pub places : AllZip (StaysNear number frames whole) old new
+  pub bytes : List ℕ
+  pub mixed : (datas : ℕ → BufferData) (m : Mixing) → AllAgree steps datas old →
+      MixesThese m number frames ends old → bytes ≡ sound_bytes m (map (picks_on number frames) (streams_of datas old))
+  pub offers : Offers number bytes whole faults told faults' told'

@@ -1,0 +1,110 @@
+//! Add: an endpoint appears (IMMNotificationClient::OnDeviceAdded; the rest is this project's own).
+
+ghost use Rattle.std.specs.Prelude.{◌≡◌, ◌||◌, not, nat_le, nat_lt, IfErr, IfOk, OnOk, None, Ok, Some};
+ghost use Rattle.std.specs.Str.{is_utf8};
+ghost use Rattle.wave_format.specs.Format.{format_at};
+ghost use Rattle.ca_machine.specs.Devices.{add_plan, add_rows};
+ghost use Rattle.service_board.specs.Answers.{code_of, payload_of};
+ghost use Rattle.service_board.specs.Does.{AnyData, Does};
+ghost use Rattle.service_board.specs.InOrder.{InOrder};
+ghost use Rattle.service_board.specs.Lookups.{Says};
+
+use crate::periods::period_frames;
+use crate::{Board, Book, Payload, Seat};
+use buffer_ring::EngineSide;
+use ca_base::limits::ENDPOINTS;
+use ca_base::values::{FLOW_CAPTURE, STATE_ACTIVE};
+use ca_base::{EndpointNo, Flow, Hr, Text};
+use ca_machine::Endpoint;
+use device_io::Devices;
+use period_engine::Block;
+use std::alloc::Global;
+use wave_format::{Format, read_format};
+
+/// Whether bytes are a text in UTF-8.
+fn is_text(bytes: &[u8]) -> bool
+    ensures { result ≡ is_utf8 bytes.now }
+{
+    str::from_utf8(bytes).is_ok()
+}
+
+impl Book {
+    /// Whether an endpoint that is to be added has a number that isn't above all before it, no flow, or a name that is
+    /// no text.
+    fn is_wrong_add(&self, number: EndpointNo, flow: u8, name: &Text) -> bool
+        ensures { result ≡ (nat_le number.0 self.now.last_endpoint
+            || (nat_lt FLOW_CAPTURE flow || not (is_utf8 name.now))) }
+    {
+        number.0 <= self.last_endpoint || flow > FLOW_CAPTURE || !is_text(name.as_bytes())
+    }
+}
+
+impl<D, E: EngineSide> Board<D, E> {
+    /// Whether an endpoint may be added: its format, or the code of the first row that refuses it.
+    fn check_add(
+        &self,
+        number: EndpointNo,
+        flow: u8,
+        format: &[u8],
+        name: &Text,
+    ) -> Result<Format, Hr>
+        ensures refused { IfErr result (λ code.
+            Says self.now (λ st. add_rows st number.0 flow format.now name.now) (Some code)) }
+        ensures free { OnOk result (Says self.now (λ st. add_rows st number.0 flow format.now name.now) None) }
+        ensures format { IfOk result (λ f. format_at format.now ≡ Ok f) }
+    {
+        if !self.book.endpoints.is_empty() || flow == FLOW_CAPTURE {
+            return Err(Hr::E_NOTIMPL);
+        }
+        if self.book.is_wrong_add(number, flow, name) {
+            return Err(Hr::E_INVALIDARG);
+        }
+        let Ok(format) = read_format(format) else {
+            return Err(Hr::E_INVALIDARG);
+        };
+        if self.book.endpoints.len() >= ENDPOINTS {
+            return Err(Hr::ENDPOINTS_FULL);
+        }
+        Ok(format)
+    }
+}
+
+impl<D: Devices, E: EngineSide> Board<D, E> {
+    /// Adds a render endpoint of this number, with a format as the bytes of a WAVEFORMATEX. The memory for its periods
+    /// is taken now: E_OUTOFMEMORY if there is none.
+    pub fn add(
+        &mut self,
+        alloc: Global,
+        number: EndpointNo,
+        flow: u8,
+        format: &[u8],
+        name: &Text,
+    ) -> Result<Payload, Hr>
+        requires order { InOrder E.state self.old }
+        ensures does { Does D.faults D.told E.moves None AnyData self.old self.new
+            (λ st. add_plan st number.0 flow format.now name.now) (code_of result) (payload_of result) }
+        ensures order { InOrder E.state self.new }
+    {
+        let format = self.check_add(number, flow, format, name)?;
+        let endpoint = Endpoint {
+            endpoint: number,
+            flow: Flow::Render,
+            state: STATE_ACTIVE,
+            format,
+            name: *name,
+            allows_exclusive: true,
+            exclusive_first: true,
+        };
+        let Ok(block) = Block::new(alloc, period_frames(&endpoint), format.channels) else {
+            return Err(Hr::E_OUTOFMEMORY);
+        };
+        self.book.endpoints.push_reserved(endpoint);
+        self.seats.push_reserved(Seat {
+            endpoint: number,
+            next: 0,
+            block,
+        });
+        self.book.last_endpoint = number.0;
+        Ok(Payload::Nothing)
+    }
+}

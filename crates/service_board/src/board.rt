@@ -1,0 +1,54 @@
+//! The board: the control state of the service, with the engine's ends of the streams.
+
+ghost use Rattle.std.specs.Prelude.{◌≡◌, IfErr, IfOk};
+ghost use Rattle.service_board.specs.New.{IsNewBoard};
+
+use crate::Book;
+use buffer_ring::EngineSide;
+use ca_base::limits::{CLIENTS, ENDPOINTS};
+use ca_base::{EndpointNo, NoMemory};
+use period_engine::{Block, StreamEntry};
+use std::alloc::Global;
+
+/// What the engine keeps of an endpoint: the place of the next frame that it plays, and scratch for its periods.
+#[derive(Drop)]
+pub struct Seat {
+    pub endpoint: EndpointNo,
+    pub next: u64,
+    pub block: Block,
+}
+
+/// The devices, the book, a seat for each endpoint in the book's order, and the engine's end of each stream in the
+/// order of the clients' numbers.
+#[derive(Drop)]
+pub struct Board<D, E> {
+    pub devices: D,
+    pub book: Book,
+    pub seats: Vec<Seat>,
+    pub entries: Vec<StreamEntry<E>>,
+}
+
+impl<D, E: EngineSide> Board<D, E> {
+    /// A board over these devices on which nothing is yet. The memory of its tables is taken now; if there is none, the
+    /// devices are handed back.
+    pub fn new(alloc: Global, devices: D) -> Result<Board<D, E>, (NoMemory, D)>
+        ensures new { IfOk result (IsNewBoard E.state devices) }
+        ensures back { IfErr result (λ refused. refused.1 ≡ devices) }
+    {
+        let Ok(book) = Book::new(alloc) else {
+            return Err((NoMemory, devices));
+        };
+        let Ok(seats) = Vec::with_capacity(alloc, ENDPOINTS) else {
+            return Err((NoMemory, devices));
+        };
+        let Ok(entries) = Vec::with_capacity(alloc, CLIENTS) else {
+            return Err((NoMemory, devices));
+        };
+        Ok(Board {
+            devices,
+            book,
+            seats,
+            entries,
+        })
+    }
+}

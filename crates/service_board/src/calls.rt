@@ -1,0 +1,66 @@
+//! Control calls by their codes.
+
+ghost use Rattle.std.specs.Prelude.{None};
+ghost use Rattle.ca_machine.specs.Step.{call_plan, unlisted_call_plan, unlisted_device_plan};
+ghost use Rattle.service_board.specs.Answers.{code_of, payload_of};
+ghost use Rattle.service_board.specs.Calls.{IsPlainCall};
+ghost use Rattle.service_board.specs.Does.{AnyData, Does};
+ghost use Rattle.service_board.specs.InOrder.{InOrder};
+
+use crate::{Board, Payload};
+use buffer_ring::EngineSide;
+use ca_base::{ConnNo, Hr};
+use ca_model::Call;
+use device_io::Devices;
+
+impl<D: Devices, E: EngineSide> Board<D, E> {
+    /// A call whose code isn't listed.
+    fn unlisted_call(&self, conn: ConnNo) -> Result<Payload, Hr>
+        ensures { Does D.faults D.told E.moves None AnyData self.now self.now (λ st. unlisted_call_plan st conn.0)
+            (code_of result) (payload_of result) }
+    {
+        self.connected(conn)?;
+        Err(Hr::E_NOTIMPL)
+    }
+
+    /// A device event whose code isn't listed.
+    pub fn unlisted_event(&self) -> Result<Payload, Hr>
+        ensures { Does D.faults D.told E.moves None AnyData self.now self.now (λ st. unlisted_device_plan st)
+            (code_of result) (payload_of result) }
+    {
+        Err(Hr::E_NOTIMPL)
+    }
+
+    /// A call that asks for no memory, needs nothing of the client's side, and gives no frame a fate.
+    pub fn plain_call(&mut self, conn: ConnNo, call: &Call) -> Result<Payload, Hr>
+        requires plain { IsPlainCall call.now }
+        requires order { InOrder E.state self.old }
+        ensures does { Does D.faults D.told E.moves None AnyData self.old self.new
+            (λ st. call_plan st conn.0 call.now) (code_of result) (payload_of result) }
+        ensures order { InOrder E.state self.new }
+    {
+        match call {
+            Call::Activate { endpoint, role } => self.activate(conn, *endpoint, *role),
+            Call::GetBufferSize { client } => self.get_buffer_size(conn, *client),
+            Call::GetStreamLatency { client } => self.get_stream_latency(conn, *client),
+            Call::IsFormatSupported {
+                client,
+                share,
+                format,
+            } => self.is_format_supported(conn, *client, *share, format.as_slice()),
+            Call::GetMixFormat { client } => self.get_mix_format(conn, *client),
+            Call::GetDevicePeriod { client } => self.get_device_period(conn, *client),
+            Call::Start { client } => self.start(conn, *client),
+            Call::Stop { client } => self.stop(conn, *client),
+            Call::GetService { client, service } => self.get_service(conn, *client, *service),
+            Call::GetPosition { client } => self.get_position(conn, *client),
+            Call::Other { .. } => self.unlisted_call(conn),
+            Call::Release { .. }
+            | Call::Initialize { .. }
+            | Call::GetCurrentPadding { .. }
+            | Call::Reset { .. }
+            | Call::GetBuffer { .. }
+            | Call::ReleaseBuffer { .. } => unreachable!(),
+        }
+    }
+}

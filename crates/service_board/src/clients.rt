@@ -1,0 +1,159 @@
+//! Connections and clients: Open and Activate (IMMDevice::Activate; the rest is this project's own).
+
+ghost use Rattle.std.specs.Prelude.{◌≡◌, ◌==◌, ◌&&◌, ◌||◌, not, nat_le, None};
+ghost use Rattle.std.specs.Result.{result_err};
+ghost use Rattle.std.specs.List.{list_all, list_any};
+ghost use Rattle.ca_base.specs.declared.limits.TheConstants.{CONNECTIONS};
+ghost use Rattle.ca_machine.specs.Clients.{
+  activate_plan,
+  activate_rows,
+  is_name,
+  is_name_byte,
+  is_role,
+  open_plan,
+  open_rows,
+};
+ghost use Rattle.ca_machine.specs.State.{is_connection};
+ghost use Rattle.service_board.specs.Answers.{code_of, payload_of};
+ghost use Rattle.service_board.specs.Does.{AnyData, Does};
+ghost use Rattle.service_board.specs.InOrder.{InOrder};
+ghost use Rattle.service_board.specs.Lookups.{Says};
+
+use crate::{Board, Book, Payload};
+use buffer_ring::EngineSide;
+use ca_base::limits::{CLIENTS, CONNECTIONS, MAX_CONNECTION_NAME, MAX_COUNT};
+use ca_base::values::{ROLE_COMMUNICATIONS, ROLE_NONE, STATE_ACTIVE};
+use ca_base::{ClientNo, ConnNo, EndpointNo, Hr, Text};
+use ca_machine::{Client, Connection};
+use device_io::Devices;
+
+fn is_name_byte(byte: u8) -> bool
+    ensures { result ≡ is_name_byte byte }
+{
+    byte.is_ascii_digit()
+        || byte.is_ascii_uppercase()
+        || byte.is_ascii_lowercase()
+        || matches!(byte, b'-' | b'.' | b'_')
+}
+
+fn has_name_bytes(name: &[u8]) -> bool
+    ensures { result ≡ list_all is_name_byte name.now }
+{
+    name.iter().all(|byte| is_name_byte(*byte))
+}
+
+/// Whether a connection may give this name: 1 to 64 ASCII letters, digits, dots, underscores and dashes.
+fn is_name(name: &[u8]) -> bool
+    ensures { result ≡ is_name name.now }
+{
+    !name.is_empty() && name.len() <= MAX_CONNECTION_NAME && has_name_bytes(name)
+}
+
+/// Whether this is a role (ERole), or none.
+fn is_role(role: u8) -> bool
+    ensures { result ≡ is_role role }
+{
+    role <= ROLE_COMMUNICATIONS || role == ROLE_NONE
+}
+
+impl Book {
+    /// Whether another connection is open.
+    fn has_other_connection(&self, conn: ConnNo) -> bool
+        ensures { result ≡ list_any (λ c. not (is_connection conn.0 c)) self.now.connections.items }
+    {
+        self.connections.iter().any(|c| c.conn != conn)
+    }
+
+    /// Whether a connection that is to be opened has a wrong number, is open, or has no process or a wrong name.
+    fn is_wrong_open(&self, conn: ConnNo, process: u32, name: &Text) -> bool
+        ensures { result ≡ (not (nat_le 1 conn.0 && nat_le conn.0 CONNECTIONS)
+            || (list_any (is_connection conn.0) self.now.connections.items
+            || (process == 0 || not (is_name name.now)))) }
+    {
+        let in_range = conn.0 >= 1 && conn.0 <= CONNECTIONS;
+        !in_range || self.is_connected(conn) || process == 0 || !is_name(name.as_bytes())
+    }
+}
+
+impl<D, E: EngineSide> Board<D, E> {
+    /// Whether a connection may be opened: the code of the first row that refuses it.
+    fn check_open(&self, conn: ConnNo, process: u32, name: &Text) -> Result<(), Hr>
+        ensures { Says self.now (λ st. open_rows st conn.0 process name.now) (result_err result) }
+    {
+        if self.book.has_other_connection(conn) {
+            return Err(Hr::E_NOTIMPL);
+        }
+        if self.book.is_wrong_open(conn, process, name) {
+            return Err(Hr::E_INVALIDARG);
+        }
+        Ok(())
+    }
+
+    /// Whether a client may be activated: the code of the first row that refuses it.
+    fn check_activate(&self, conn: ConnNo, endpoint: EndpointNo, role: u8) -> Result<(), Hr>
+        ensures { Says self.now (λ st. activate_rows st conn.0 endpoint.0 role) (result_err result) }
+    {
+        self.connected(conn)?;
+        let Some(place) = self.book.endpoint_place(endpoint) else {
+            return Err(Hr::E_NOTFOUND);
+        };
+        if !is_role(role) {
+            return Err(Hr::E_INVALIDARG);
+        }
+        if self.book.endpoints[place].state != STATE_ACTIVE {
+            return Err(Hr::DEVICE_INVALIDATED);
+        }
+        if self.book.clients.len() >= CLIENTS {
+            return Err(Hr::CLIENTS_FULL);
+        }
+        if self.book.clients_made >= MAX_COUNT {
+            return Err(Hr::WORN);
+        }
+        Ok(())
+    }
+}
+
+impl<D: Devices, E: EngineSide> Board<D, E> {
+    /// Opens a connection of a process, under a name.
+    pub fn open(&mut self, conn: ConnNo, process: u32, name: &Text) -> Result<Payload, Hr>
+        requires order { InOrder E.state self.old }
+        ensures does { Does D.faults D.told E.moves None AnyData self.old self.new
+            (λ st. open_plan st conn.0 process name.now) (code_of result) (payload_of result) }
+        ensures order { InOrder E.state self.new }
+    {
+        self.check_open(conn, process, name)?;
+        let connection = Connection {
+            conn,
+            process,
+            name: *name,
+        };
+        match self.book.connections.push(connection) {
+            Ok(()) => Ok(Payload::Nothing),
+            Err(_) => unreachable!(),
+        }
+    }
+
+    /// Activates a client of a connection on an endpoint, and answers its number (IMMDevice::Activate).
+    pub fn activate(&mut self, conn: ConnNo, endpoint: EndpointNo, role: u8) -> Result<Payload, Hr>
+        requires order { InOrder E.state self.old }
+        ensures does { Does D.faults D.told E.moves None AnyData self.old self.new
+            (λ st. activate_plan st conn.0 endpoint.0 role) (code_of result) (payload_of result) }
+        ensures order { InOrder E.state self.new }
+    {
+        self.check_activate(conn, endpoint, role)?;
+        let number = self.book.clients_made + 1;
+        let client = Client {
+            client: ClientNo(number),
+            conn,
+            endpoint,
+            role,
+        };
+        match self.book.clients.push(client) {
+            Ok(()) => {
+                self.book.clients_made = number;
+                Ok(Payload::Long(number))
+            }
+            Err(_) => unreachable!(),
+        }
+    }
+}

@@ -1,0 +1,59 @@
+//! Look-ups of the endpoint that a client may use.
+
+ghost use Rattle.std.specs.Prelude.{◌≡◌, IfErr, IfOk, MatchOption, Some, None};
+ghost use Rattle.std.specs.List.{find};
+ghost use Rattle.ca_machine.specs.State.{is_endpoint};
+ghost use Rattle.ca_machine.specs.Streams.{endpoint_rows};
+ghost use Rattle.service_board.specs.Lookups.{FindsEndpoint, IsActiveAt, LacksActive, Says, is_disconnected};
+
+use crate::{Board, Book};
+use buffer_ring::EngineSide;
+use ca_base::values::STATE_ACTIVE;
+use ca_base::{ClientNo, ConnNo, EndpointNo, Gate, Hr};
+
+impl Book {
+    /// The place of an endpoint that is there and ACTIVE.
+    pub fn active_endpoint(&self, e: EndpointNo) -> Option<usize>
+        ensures { MatchOption result (LacksActive e.0 self.now) (IsActiveAt e.0 self.now) }
+    {
+        let at = self.endpoint_place(e)?;
+        if self.endpoints[at].state != STATE_ACTIVE {
+            return None;
+        }
+        Some(at)
+    }
+}
+
+impl<D, E: EngineSide> Board<D, E> {
+    /// Whether a client has a stream that was disconnected.
+    pub fn is_disconnected(&self, client: ClientNo) -> bool
+        ensures { result ≡ is_disconnected client.0 self.now.entries.items }
+    {
+        let Some(at) = self.entry_place(client) else {
+            return false;
+        };
+        match self.entries[at].gate {
+            Gate::Open => false,
+            Gate::Closed(_) => true,
+        }
+    }
+
+    /// The place in the book of the endpoint of a call's client. The client is a live one of the connection, its stream
+    /// wasn't disconnected, and the endpoint is ACTIVE.
+    pub fn valid_endpoint(&self, conn: ConnNo, client: ClientNo) -> Result<usize, Hr>
+        ensures refused { IfErr result (λ code. Says self.now (λ st. endpoint_rows st conn.0 client.0) (Some code)) }
+        ensures found { IfOk result (FindsEndpoint conn.0 client.0 self.now) }
+    {
+        let Some(place) = self.book.client_place(conn, client) else {
+            return Err(Hr::E_HANDLE);
+        };
+        if self.is_disconnected(client) {
+            return Err(Hr::DEVICE_INVALIDATED);
+        }
+        let number = self.book.clients[place].endpoint;
+        match self.book.active_endpoint(number) {
+            Some(at) => Ok(at),
+            None => Err(Hr::DEVICE_INVALIDATED),
+        }
+    }
+}

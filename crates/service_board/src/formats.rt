@@ -1,0 +1,82 @@
+//! Control calls on what a client may open (IAudioClient): its endpoint's format and periods.
+
+ghost use Rattle.std.specs.Prelude.{None};
+ghost use Rattle.ca_machine.specs.Streams.{get_device_period_plan, get_mix_format_plan, is_format_supported_plan};
+ghost use Rattle.service_board.specs.Answers.{code_of, payload_of};
+ghost use Rattle.service_board.specs.Does.{AnyData, Does};
+ghost use Rattle.service_board.specs.Formats.{TellsSupport};
+
+use crate::{Board, Payload};
+use buffer_ring::EngineSide;
+use ca_base::limits::{MIN_EXCLUSIVE_PERIOD, SHARED_PERIOD};
+use ca_base::values::SHARE_EXCLUSIVE;
+use ca_base::{ClientNo, ConnNo, Hr};
+use device_io::Devices;
+use wave_format::{Format, read_format};
+
+/// What a shared stream of these bytes' format gets on an endpoint of this one: nothing more if the endpoint takes it,
+/// and the closest format, the endpoint's, if it doesn't. E_INVALIDARG if the bytes are no format at all.
+fn support(mix: &Format, bytes: &[u8]) -> Result<Payload, Hr>
+    ensures { TellsSupport result mix.now bytes.now }
+{
+    match read_format(bytes) {
+        Ok(format) => {
+            if format.channels == mix.channels && format.rate == mix.rate {
+                return Ok(Payload::Nothing);
+            }
+            Ok(Payload::Closest(*mix))
+        }
+        Err(fault) => {
+            if fault.0 <= 2 {
+                return Err(Hr::E_INVALIDARG);
+            }
+            Ok(Payload::Closest(*mix))
+        }
+    }
+}
+
+impl<D: Devices, E: EngineSide> Board<D, E> {
+    /// IAudioClient::GetMixFormat: the endpoint's format.
+    pub fn get_mix_format(&self, conn: ConnNo, client: ClientNo) -> Result<Payload, Hr>
+        ensures does { Does D.faults D.told E.moves None AnyData self.now self.now
+            (λ st. get_mix_format_plan st conn.0 client.0) (code_of result) (payload_of result) }
+    {
+        self.connected(conn)?;
+        let at = self.valid_endpoint(conn, client)?;
+        Ok(Payload::Format(self.book.endpoints[at].format))
+    }
+
+    /// IAudioClient::GetDevicePeriod: the period of shared streams, and the least one of exclusive streams, in units of
+    /// 100 ns.
+    pub fn get_device_period(&self, conn: ConnNo, client: ClientNo) -> Result<Payload, Hr>
+        ensures does { Does D.faults D.told E.moves None AnyData self.now self.now
+            (λ st. get_device_period_plan st conn.0 client.0) (code_of result) (payload_of result) }
+    {
+        self.connected(conn)?;
+        self.valid_endpoint(conn, client)?;
+        Ok(Payload::Longs(SHARED_PERIOD, MIN_EXCLUSIVE_PERIOD))
+    }
+
+    /// IAudioClient::IsFormatSupported of a shared stream, for a format's bytes: S_FALSE comes with the closest format.
+    pub fn is_format_supported(
+        &self,
+        conn: ConnNo,
+        client: ClientNo,
+        share: u32,
+        format: &[u8],
+    ) -> Result<Payload, Hr>
+        ensures does { Does D.faults D.told E.moves None AnyData self.now self.now
+            (λ st. is_format_supported_plan st conn.0 client.0 share format.now)
+            (code_of result) (payload_of result) }
+    {
+        self.connected(conn)?;
+        if share == SHARE_EXCLUSIVE {
+            return Err(Hr::E_NOTIMPL);
+        }
+        let at = self.valid_endpoint(conn, client)?;
+        if share > SHARE_EXCLUSIVE {
+            return Err(Hr::E_INVALIDARG);
+        }
+        support(&self.book.endpoints[at].format, format)
+    }
+}

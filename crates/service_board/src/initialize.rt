@@ -1,0 +1,96 @@
+//! IAudioClient::Initialize: what it is refused for, and what it opens.
+
+ghost use Rattle.std.specs.Prelude.{◌≡◌, [], IfErr, IfOk, IfSome, None, is_ok, is_some};
+ghost use Rattle.std.specs.List.{position, position_or_len};
+ghost use Rattle.service_board.specs.Answers.{code_of, payload_of};
+ghost use Rattle.service_board.specs.Does.{AnyData, Does};
+ghost use Rattle.service_board.specs.InOrder.{InOrder};
+ghost use Rattle.service_board.specs.Openings.{Enters, IsFresh, IsNewStore, Plans, is_above, opening_plan};
+
+use crate::opening::shared_buffer;
+use crate::{Board, Opening, OpeningPlan, Payload};
+use buffer_ring::EngineSide;
+use ca_base::{ClientNo, Hr};
+use device_io::Devices;
+
+impl<D: Devices, E: EngineSide> Board<D, E> {
+    /// The place of the first entry of a greater client number.
+    fn first_above(&self, client: ClientNo) -> Option<usize>
+        ensures { result ≡ position (is_above client.0) self.now.entries.items }
+    {
+        self.entries
+            .iter()
+            .position(|entry| client.0 < entry.client.0)
+    }
+
+    /// The place in the entries for a new client: that of the first one of a greater number, or their end.
+    fn new_place(&self, client: ClientNo) -> usize
+        ensures { result ≡ position_or_len (is_above client.0) self.now.entries.items }
+    {
+        match self.first_above(client) {
+            Some(at) => at,
+            None => self.entries.len(),
+        }
+    }
+
+    /// What an Initialize opens, and the store that it needs: one of `buffer` words that renders. All rows are looked
+    /// at but that of memory, and a refusal is the call's.
+    pub fn plan_initialize(&self, x: &Opening) -> Result<OpeningPlan, Hr>
+        ensures refused { IfErr result (λ code.
+            Does D.faults D.told E.moves None AnyData self.now self.now (opening_plan x.now) code []) }
+        ensures planned { IfOk result (Plans x.now self.now) }
+    {
+        let Some(process) = self.book.process_of(x.conn) else {
+            return Err(Hr::E_HANDLE);
+        };
+        x.check_later()?;
+        let place = self.valid_endpoint(x.conn, x.client)?;
+        if self.entry_place(x.client).is_some() {
+            return Err(Hr::ALREADY_INITIALIZED);
+        }
+        x.check_arguments()?;
+        let endpoint = &self.book.endpoints[place];
+        let format = x.format_for(&endpoint.format)?;
+        let session = self.book.session_of(endpoint.endpoint, process, x.session)?;
+        Ok(OpeningPlan {
+            endpoint: endpoint.endpoint,
+            process,
+            format,
+            buffer: shared_buffer(format.rate, x.duration),
+            session,
+        })
+    }
+
+    /// Opens the stream that was planned, in its store, and answers its session's number (IAudioClient::Initialize,
+    /// IAudioSessionControl2). No store was made if memory ran out.
+    ///
+    /// Errors: E_OUTOFMEMORY without a store, and the board is as before.
+    pub fn initialize(
+        &mut self,
+        x: &Opening,
+        plan: &OpeningPlan,
+        store: Option<E>,
+    ) -> Result<Payload, Hr>
+        requires order { InOrder E.state self.old }
+        requires planned { Plans x.now self.old plan.now }
+        requires store { IfSome store (IsNewStore E.state plan.now.buffer) }
+        ensures opens { is_ok result ≡ is_some store }
+        ensures does { Does D.faults D.told E.moves store (IsFresh x.now.client.0) self.old self.new
+            (opening_plan x.now) (code_of result) (payload_of result) }
+        ensures order { InOrder E.state self.new }
+        ensures enters { IfOk result (λ p.
+            Enters x.now plan.now store self.old.entries.items self.new.entries.items) }
+        ensures stays { IfErr result (λ code. self.new ≡ self.old) }
+    {
+        let Some(store) = store else {
+            return Err(Hr::E_OUTOFMEMORY);
+        };
+        let session = self.book.join(x, plan);
+        let at = self.new_place(x.client);
+        let entry = x.entry(plan, session, store);
+        match self.entries.insert(at, entry) {
+            Ok(()) => Ok(Payload::Long(session.0)),
+            Err(_) => unreachable!(),
+        }
+    }
+}

@@ -1,0 +1,143 @@
+//! Clients that leave: Release and Hangup (this project's own). Their streams go with them, and sessions without one.
+
+ghost use Rattle.std.specs.Prelude.{◌≡◌, ◌==◌, filter, not, None};
+ghost use Rattle.std.specs.List.{All, AllZip, list_any};
+ghost use Rattle.std.specs.Vec.{vec_capacity};
+ghost use Rattle.ca_machine.specs.Clients.{hangup_plan, is_client_on, release_plan};
+ghost use Rattle.ca_machine.specs.State.{is_client_of, is_connection};
+ghost use Rattle.period_engine.specs.Entries.{IsRested};
+ghost use Rattle.service_board.specs.Answers.{code_of, payload_of};
+ghost use Rattle.service_board.specs.Does.{AnyData, Does};
+ghost use Rattle.service_board.specs.InOrder.{InOrder};
+ghost use Rattle.service_board.specs.Leaving.{AreClosed, Forgets, Keeps, Parts, is_in_use, is_live};
+
+use crate::{Board, Payload};
+use buffer_ring::EngineSide;
+use ca_base::{ClientNo, ConnNo, Gate, Hr, Reason, SessionNo};
+use ca_machine::{Client, Connection, Session};
+use device_io::Devices;
+use period_engine::StreamEntry;
+
+/// Whether one of these clients has this number.
+fn is_live(clients: &[Client], client: ClientNo) -> bool
+    ensures { result ≡ is_live clients.now client.0 }
+{
+    clients.iter().any(|c| c.client == client)
+}
+
+/// Closes the store of a stream that is none of these clients', if it is open.
+fn close_unless_live<E: EngineSide>(entry: &mut StreamEntry<E>, clients: &[Client])
+    requires { IsRested E.state entry.old }
+    ensures { Parts E.moves clients.now entry.old entry.new }
+{
+    if is_live(clients, entry.client) {
+        return;
+    }
+    match entry.gate {
+        Gate::Open => {
+            entry.store.close(Reason::Released);
+        }
+        Gate::Closed(_) => {}
+    }
+}
+
+/// Closes the open stores of all streams but those of these clients.
+fn close_stores<E: EngineSide>(entries: &mut [StreamEntry<E>], clients: &[Client])
+    requires { All (IsRested E.state) entries.old }
+    ensures { AllZip (Parts E.moves clients.now) entries.old entries.new }
+{
+    for entry in entries.iter_mut() {
+        close_unless_live(entry, clients);
+    }
+}
+
+/// Takes all streams but those of these clients away, and closes their stores.
+fn drop_streams<E: EngineSide>(entries: &mut Vec<StreamEntry<E>>, clients: &[Client])
+    requires rested { All (IsRested E.state) entries.old.items }
+    ensures keeps { Keeps E.moves clients.now entries.old.items entries.new.items }
+    ensures room { vec_capacity entries.new ≡ vec_capacity entries.old }
+{
+    close_stores(entries, clients);
+    entries.retain(|entry| is_live(clients, entry.client));
+}
+
+/// Whether one of these streams is of this session.
+fn is_in_use<E>(entries: &[StreamEntry<E>], session: SessionNo) -> bool
+    ensures { result ≡ list_any (λ e. e.session.0 == session.0) entries.now }
+{
+    entries.iter().any(|entry| entry.session == session)
+}
+
+/// Takes all sessions but those of these streams away.
+fn drop_sessions<E>(sessions: &mut Vec<Session>, entries: &[StreamEntry<E>])
+    ensures left { sessions.new.items ≡ filter (is_in_use entries.now) sessions.old.items }
+    ensures room { vec_capacity sessions.new ≡ vec_capacity sessions.old }
+{
+    sessions.retain(|s| is_in_use(entries, s.session));
+}
+
+/// Takes a client of a connection away.
+fn drop_client(clients: &mut Vec<Client>, conn: ConnNo, client: ClientNo)
+    ensures left { clients.new.items ≡ filter (λ c. not (is_client_of conn.0 client.0 c)) clients.old.items }
+    ensures room { vec_capacity clients.new ≡ vec_capacity clients.old }
+{
+    clients.retain(|c| !(c.client == client && c.conn == conn));
+}
+
+/// Takes all clients of a connection away.
+fn drop_clients(clients: &mut Vec<Client>, conn: ConnNo)
+    ensures left { clients.new.items ≡ filter (λ c. not (is_client_on conn.0 c)) clients.old.items }
+    ensures room { vec_capacity clients.new ≡ vec_capacity clients.old }
+{
+    clients.retain(|c| c.conn != conn);
+}
+
+/// Takes a connection away.
+fn drop_connection(connections: &mut Vec<Connection>, conn: ConnNo)
+    ensures left { connections.new.items ≡ filter (λ c. not (is_connection conn.0 c)) connections.old.items }
+    ensures room { vec_capacity connections.new ≡ vec_capacity connections.old }
+{
+    connections.retain(|c| c.conn != conn);
+}
+
+impl<D, E: EngineSide> Board<D, E> {
+    /// Takes away what belongs to no live client: streams, whose stores are closed, and sessions without a stream.
+    fn forget_gone(&mut self)
+        requires rested { All (IsRested E.state) self.old.entries.items }
+        ensures { Forgets E.moves self.old self.new }
+    {
+        drop_streams(&mut self.entries, &self.book.clients);
+        drop_sessions(&mut self.book.sessions, &self.entries);
+    }
+}
+
+impl<D: Devices, E: EngineSide> Board<D, E> {
+    /// Releases a client: its stream, if it has one, is closed and goes with it.
+    pub fn release(&mut self, conn: ConnNo, client: ClientNo) -> Result<Payload, Hr>
+        requires order { InOrder E.state self.old }
+        ensures does { Does D.faults D.told E.moves None AnyData self.old self.new
+            (λ st. release_plan st conn.0 client.0) (code_of result) (payload_of result) }
+        ensures order { InOrder E.state self.new }
+        ensures closed { AreClosed E.moves self.old.entries.items self.new.entries.items }
+    {
+        self.live_client(conn, client)?;
+        drop_client(&mut self.book.clients, conn, client);
+        self.forget_gone();
+        Ok(Payload::Nothing)
+    }
+
+    /// Ends a connection, and releases all of its clients.
+    pub fn hangup(&mut self, conn: ConnNo) -> Result<Payload, Hr>
+        requires order { InOrder E.state self.old }
+        ensures does { Does D.faults D.told E.moves None AnyData self.old self.new
+            (λ st. hangup_plan st conn.0) (code_of result) (payload_of result) }
+        ensures order { InOrder E.state self.new }
+        ensures closed { AreClosed E.moves self.old.entries.items self.new.entries.items }
+    {
+        self.connected(conn)?;
+        drop_clients(&mut self.book.clients, conn);
+        drop_connection(&mut self.book.connections, conn);
+        self.forget_gone();
+        Ok(Payload::Nothing)
+    }
+}

@@ -1,0 +1,87 @@
+//! Look-ups of a call: whom it names. A look-up that fails tells the code of the call's row.
+
+ghost use Rattle.std.specs.Prelude.{◌≡◌, IfErr, IfOk, Some, None};
+ghost use Rattle.std.specs.Result.{result_err};
+ghost use Rattle.std.specs.List.{list_any, position};
+ghost use Rattle.ca_machine.specs.SharedRows.{control_rows};
+ghost use Rattle.ca_machine.specs.State.{is_client_of, is_connection, is_endpoint};
+ghost use Rattle.service_board.specs.InOrder.{InOrder, is_seat};
+ghost use Rattle.service_board.specs.Lookups.{FindsClient, FindsStream, Says};
+ghost use Rattle.service_board.specs.Lookups.{client_call_rows, is_entry_of, stream_call_rows};
+
+use crate::{Board, Book};
+use buffer_ring::EngineSide;
+use ca_base::{ClientNo, ConnNo, EndpointNo, Hr};
+use client_state::gate_refusal;
+
+impl Book {
+    /// Whether a connection is open.
+    pub fn is_connected(&self, conn: ConnNo) -> bool
+        ensures { result ≡ list_any (is_connection conn.0) self.now.connections.items }
+    {
+        self.connections.iter().any(|c| c.conn == conn)
+    }
+
+    /// The place of a live client of a connection.
+    pub fn client_place(&self, conn: ConnNo, client: ClientNo) -> Option<usize>
+        ensures { result ≡ position (is_client_of conn.0 client.0) self.now.clients.items }
+    {
+        self.clients
+            .iter()
+            .position(|c| c.client == client && c.conn == conn)
+    }
+
+    /// The place of an endpoint.
+    pub fn endpoint_place(&self, e: EndpointNo) -> Option<usize>
+        ensures { result ≡ position (is_endpoint e.0) self.now.endpoints.items }
+    {
+        self.endpoints.iter().position(|x| x.endpoint == e)
+    }
+}
+
+impl<D, E: EngineSide> Board<D, E> {
+    /// The place of a client's entry.
+    pub fn entry_place(&self, client: ClientNo) -> Option<usize>
+        ensures { result ≡ position (is_entry_of client.0) self.now.entries.items }
+    {
+        self.entries.iter().position(|entry| entry.client == client)
+    }
+
+    /// Whether a control call's connection is open.
+    pub fn connected(&self, conn: ConnNo) -> Result<(), Hr>
+        ensures { Says self.now (control_rows conn.0) (result_err result) }
+    {
+        if !self.book.is_connected(conn) {
+            return Err(Hr::E_HANDLE);
+        }
+        Ok(())
+    }
+
+    /// The place in the book of a call's client, which is a live client of the connection.
+    pub fn live_client(&self, conn: ConnNo, client: ClientNo) -> Result<usize, Hr>
+        ensures refused { IfErr result (λ code. Says self.now (client_call_rows conn.0 client.0) (Some code)) }
+        ensures found { IfOk result (FindsClient conn.0 client.0 self.now) }
+    {
+        self.connected(conn)?;
+        match self.book.client_place(conn, client) {
+            Some(place) => Ok(place),
+            None => Err(Hr::E_HANDLE),
+        }
+    }
+
+    /// The place of the entry of a call's client, whose stream is open.
+    pub fn open_stream(&self, conn: ConnNo, client: ClientNo) -> Result<usize, Hr>
+        requires order { InOrder E.state self.now }
+        ensures refused { IfErr result (λ code. Says self.now (stream_call_rows conn.0 client.0) (Some code)) }
+        ensures found { IfOk result (FindsStream conn.0 client.0 self.now) }
+    {
+        self.live_client(conn, client)?;
+        let Some(at) = self.entry_place(client) else {
+            return Err(Hr::NOT_INITIALIZED);
+        };
+        match gate_refusal(self.entries[at].gate) {
+            Some(code) => Err(code),
+            None => Ok(at),
+        }
+    }
+}

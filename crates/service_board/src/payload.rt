@@ -1,0 +1,110 @@
+//! What granted calls answer.
+
+ghost use Rattle.std.specs.Prelude.{◌≡◌, ◌+◌, ◌≤◌, [], ◌∷◌, ◌++◌, length, if◌then◌else◌};
+ghost use Rattle.std.specs.Int.{to_le_bytes, w32};
+ghost use Rattle.ca_machine.specs.Streams.{format_payload};
+ghost use Rattle.service_board.specs.Answers.{is_failure, payload_bytes, payload_code};
+
+use ca_base::{Bytes, Hr};
+use wave_format::{Format, format_length, write_format};
+
+/// The longest payload of a reply, in bytes: a format's two bytes of length, and its 40 bytes.
+pub const REPLY_ROOM: usize = 42;
+
+/// The payload of a granted call.
+#[derive(Clone, Copy, Debug, PartialEq, Eq)]
+pub enum Payload {
+    /// No bytes.
+    Nothing,
+    /// A number of four bytes.
+    Number(u32),
+    /// A number of eight bytes.
+    Long(u64),
+    /// Two numbers of eight bytes.
+    Longs(u64, u64),
+    /// A format: two bytes of length, and its bytes.
+    Format(Format),
+    /// The closest format, with S_FALSE (IAudioClient::IsFormatSupported).
+    Closest(Format),
+    /// A period: its frames, and a byte that says whether the device failed.
+    Period { frames: u32, failed: bool },
+}
+
+/// Adds bytes that fit without asking for memory.
+fn add(out: &mut Bytes, bytes: &[u8])
+    requires { length out.old.list + length bytes.now ≤ out.old.capacity }
+    ensures list { out.new.list ≡ out.old.list ++ bytes.now }
+    ensures keeps { out.old.capacity ≤ out.new.capacity }
+{
+    if out.append(bytes).is_err() {
+        unreachable!();
+    }
+}
+
+/// A format: two bytes of length, and its bytes.
+fn put_format(f: &Format, out: &mut Bytes)
+    requires empty { out.old.list ≡ [] }
+    requires room { REPLY_ROOM ≤ out.old.capacity }
+    ensures list { out.new.list ≡ format_payload f.now }
+    ensures within { length out.new.list ≤ REPLY_ROOM }
+    ensures keeps { out.old.capacity ≤ out.new.capacity }
+{
+    add(out, &format_length(f).to_le_bytes());
+    if write_format(f, out).is_err() {
+        unreachable!();
+    }
+}
+
+/// A period's frames, and a byte that says whether the device failed.
+fn put_period(frames: u32, failed: bool, out: &mut Bytes)
+    requires empty { out.old.list ≡ [] }
+    requires room { REPLY_ROOM ≤ out.old.capacity }
+    ensures list { out.new.list ≡ to_le_bytes w32 frames ++ (if failed then 1 else 0) ∷ [] }
+    ensures keeps { out.old.capacity ≤ out.new.capacity }
+{
+    let [a, b, c, d] = frames.to_le_bytes();
+    add(out, &[a, b, c, d, failed as u8]);
+}
+
+impl Payload {
+    /// The code that it is answered with: S_FALSE with the closest format.
+    pub fn code(&self) -> Hr
+        ensures { result ≡ payload_code self.now }
+    {
+        match self {
+            Payload::Closest(_) => Hr::S_FALSE,
+            _ => Hr::S_OK,
+        }
+    }
+
+    /// Whether it says that a device failed.
+    pub fn is_failure(&self) -> bool
+        ensures { result ≡ is_failure self.now }
+    {
+        match self {
+            Payload::Period { failed, .. } => *failed,
+            _ => false,
+        }
+    }
+
+    /// Puts its bytes into the payload of a reply, which is empty before and has taken memory for the longest one.
+    pub fn put(&self, out: &mut Bytes)
+        requires empty { out.old.list ≡ [] }
+        requires room { REPLY_ROOM ≤ out.old.capacity }
+        ensures list { out.new.list ≡ payload_bytes self.now }
+        ensures within { length out.new.list ≤ REPLY_ROOM }
+        ensures keeps { out.old.capacity ≤ out.new.capacity }
+    {
+        match self {
+            Payload::Nothing => {}
+            Payload::Number(n) => add(out, &n.to_le_bytes()),
+            Payload::Long(n) => add(out, &n.to_le_bytes()),
+            Payload::Longs(a, b) => {
+                add(out, &a.to_le_bytes());
+                add(out, &b.to_le_bytes());
+            }
+            Payload::Format(f) | Payload::Closest(f) => put_format(f, out),
+            Payload::Period { frames, failed } => put_period(*frames, *failed, out),
+        }
+    }
+}

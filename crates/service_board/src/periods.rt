@@ -1,0 +1,92 @@
+//! A period of an endpoint: what is due is played; or the device fails, and the endpoint with it.
+
+ghost use Rattle.std.specs.Prelude.{◌≡◌, IfErr, IfOk, None, Some};
+ghost use Rattle.ca_machine.specs.Periods.{period_frames, period_plan};
+ghost use Rattle.service_board.specs.Answers.{IsPeriod, code_of, payload_of};
+ghost use Rattle.service_board.specs.Does.{AnyData, Does};
+ghost use Rattle.service_board.specs.Due.{FindsDue};
+ghost use Rattle.service_board.specs.InOrder.{InOrder};
+ghost use Rattle.service_board.specs.Lookups.{Says};
+
+use crate::plays::play;
+use crate::{Board, Payload};
+use buffer_ring::EngineSide;
+use ca_base::limits::{MAX_COUNT, MAX_LEVEL, SHARED_PERIOD};
+use ca_base::values::{STATE_ACTIVE, STATE_NOTPRESENT};
+use ca_base::{EndpointNo, Failed, Hr};
+use ca_machine::Endpoint;
+use device_io::Devices;
+use wave_format::frames_of;
+
+/// The gain of each channel of an endpoint: none changes anything.
+const END_GAINS: [u32; 4] = [MAX_LEVEL; 4];
+
+/// The frames of an endpoint's period.
+pub fn period_frames(e: &Endpoint) -> u32
+    ensures { result ≡ period_frames e.now }
+{
+    frames_of(e.format.rate, SHARED_PERIOD) as u32
+}
+
+impl<D: Devices, E: EngineSide> Board<D, E> {
+    /// The place of the endpoint whose period is due, and of its seat. The endpoint is ACTIVE, and the count of its
+    /// frames has room for the period.
+    pub fn due(&self, e: EndpointNo) -> Result<usize, Hr>
+        requires order { InOrder E.state self.now }
+        ensures refused { IfErr result (λ code. Says self.now (λ st. (period_plan st e.0).rows) (Some code)) }
+        ensures found { IfOk result (FindsDue e.0 self.now) }
+    {
+        let Some(at) = self.book.endpoint_place(e) else {
+            return Err(Hr::E_NOTFOUND);
+        };
+        let endpoint = &self.book.endpoints[at];
+        if endpoint.state != STATE_ACTIVE {
+            return Err(Hr::DEVICE_INVALIDATED);
+        }
+        let frames = period_frames(endpoint);
+        let next = self.seats[at].next;
+        if next + frames as u64 > MAX_COUNT {
+            return Err(Hr::WORN);
+        }
+        Ok(at)
+    }
+
+    /// A period of an endpoint: what is due of its streams is played. If the device fails, its streams are closed, and
+    /// the endpoint is NOTPRESENT.
+    pub fn period(&mut self, e: EndpointNo) -> Result<Payload, Hr>
+        requires order { InOrder E.state self.old }
+        ensures does { Does D.faults D.told E.moves None AnyData self.old self.new
+            (λ st. period_plan st e.0) (code_of result) (payload_of result) }
+        ensures order { InOrder E.state self.new }
+        ensures plays { IfOk result IsPeriod }
+    {
+        let at = self.due(e)?;
+        let endpoint = &self.book.endpoints[at];
+        let frames = period_frames(endpoint);
+        let ends = &END_GAINS[..endpoint.format.channels as usize];
+        let seat = &mut self.seats[at];
+        match play(
+            &mut self.entries,
+            e,
+            frames,
+            ends,
+            &mut seat.block,
+            &mut self.devices,
+        ) {
+            Ok(()) => {
+                seat.next += frames as u64;
+                Ok(Payload::Period {
+                    frames,
+                    failed: false,
+                })
+            }
+            Err(Failed) => {
+                self.book.endpoints[at].state = STATE_NOTPRESENT;
+                Ok(Payload::Period {
+                    frames: 0,
+                    failed: true,
+                })
+            }
+        }
+    }
+}

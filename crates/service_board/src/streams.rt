@@ -1,0 +1,154 @@
+//! Control calls of a client's open stream (IAudioClient, IAudioClock).
+
+ghost use Rattle.std.specs.Prelude.{◌≡◌, ◌≤◌, ◌==◌, ◌&&◌, ◌||◌, not, None};
+ghost use Rattle.ca_base.specs.declared.ids.Gate.TheVariants as gate;
+ghost use Rattle.ca_machine.specs.Streams.{get_buffer_size_plan, get_stream_latency_plan, get_position_plan};
+ghost use Rattle.ca_machine.specs.Streams.{get_service_plan, is_service, start_plan, stop_plan, reset_plan};
+ghost use Rattle.ca_stage.specs.Stage.{is_render};
+ghost use Rattle.period_engine.specs.Entries.{IsRested};
+ghost use Rattle.service_board.specs.Answers.{code_of, payload_of};
+ghost use Rattle.service_board.specs.Does.{AnyData, Does};
+ghost use Rattle.service_board.specs.InOrder.{InOrder};
+ghost use Rattle.service_board.specs.StreamCalls.{Empties, IsLeased};
+
+use crate::{Board, Payload};
+use buffer_ring::EngineSide;
+use ca_base::{ClientNo, ConnNo, Hr, StreamKind};
+use device_io::Devices;
+use period_engine::StreamEntry;
+
+/// Whether there is a service of this number.
+fn is_service(service: u32) -> bool
+    ensures { result ≡ is_service service }
+{
+    1 <= service && service <= 7
+}
+
+/// Whether a service is one of streams of another kind: 1 renders, 2 captures.
+fn is_of_other_kind(service: u32, kind: StreamKind) -> bool
+    ensures { result ≡ (service == 1 && not (is_render kind) || service == 2 && is_render kind) }
+{
+    let renders = match kind {
+        StreamKind::Render => true,
+        StreamKind::Capture | StreamKind::Loopback => false,
+    };
+    service == 1 && !renders || service == 2 && renders
+}
+
+/// Throws away what is pending in a stream's store, and its position. Whether there was something to throw away.
+fn empty<E: EngineSide>(entry: &mut StreamEntry<E>) -> bool
+    requires rested { IsRested E.state entry.old }
+    requires open { entry.old.gate ≡ gate.Open }
+    ensures empties { Empties E.moves result entry.old entry.new }
+    ensures rested { IsRested E.state entry.new }
+    ensures back { entry.new.position ≤ entry.old.position }
+{
+    let held = entry.store.held();
+    if held == 0 && entry.position == 0 {
+        return false;
+    }
+    entry.store.retire(held);
+    entry.position = 0;
+    true
+}
+
+impl<D: Devices, E: EngineSide> Board<D, E> {
+    /// IAudioClient::GetBufferSize: the frames of the buffer.
+    pub fn get_buffer_size(&self, conn: ConnNo, client: ClientNo) -> Result<Payload, Hr>
+        requires order { InOrder E.state self.now }
+        ensures does { Does D.faults D.told E.moves None AnyData self.now self.now
+            (λ st. get_buffer_size_plan st conn.0 client.0) (code_of result) (payload_of result) }
+    {
+        let at = self.open_stream(conn, client)?;
+        Ok(Payload::Number(self.entries[at].buffer))
+    }
+
+    /// IAudioClient::GetStreamLatency: the latency, in units of 100 ns.
+    pub fn get_stream_latency(&self, conn: ConnNo, client: ClientNo) -> Result<Payload, Hr>
+        requires order { InOrder E.state self.now }
+        ensures does { Does D.faults D.told E.moves None AnyData self.now self.now
+            (λ st. get_stream_latency_plan st conn.0 client.0) (code_of result) (payload_of result) }
+    {
+        let at = self.open_stream(conn, client)?;
+        Ok(Payload::Long(self.entries[at].latency))
+    }
+
+    /// IAudioClock::GetPosition: the frames rendered since the last Reset, and the frames a second.
+    pub fn get_position(&self, conn: ConnNo, client: ClientNo) -> Result<Payload, Hr>
+        requires order { InOrder E.state self.now }
+        ensures does { Does D.faults D.told E.moves None AnyData self.now self.now
+            (λ st. get_position_plan st conn.0 client.0) (code_of result) (payload_of result) }
+    {
+        let at = self.open_stream(conn, client)?;
+        let entry = &self.entries[at];
+        Ok(Payload::Longs(entry.position, entry.rate as u64))
+    }
+
+    /// IAudioClient::GetService: E_NOINTERFACE for a service that isn't listed, AUDCLNT_E_WRONG_ENDPOINT_TYPE for one
+    /// of a stream of another kind.
+    pub fn get_service(&self, conn: ConnNo, client: ClientNo, service: u32) -> Result<Payload, Hr>
+        requires order { InOrder E.state self.now }
+        ensures does { Does D.faults D.told E.moves None AnyData self.now self.now
+            (λ st. get_service_plan st conn.0 client.0 service) (code_of result) (payload_of result) }
+    {
+        let at = self.open_stream(conn, client)?;
+        if !is_service(service) {
+            return Err(Hr::E_NOINTERFACE);
+        }
+        if is_of_other_kind(service, self.entries[at].kind) {
+            return Err(Hr::WRONG_ENDPOINT_TYPE);
+        }
+        Ok(Payload::Nothing)
+    }
+
+    /// IAudioClient::Start.
+    pub fn start(&mut self, conn: ConnNo, client: ClientNo) -> Result<Payload, Hr>
+        requires order { InOrder E.state self.old }
+        ensures does { Does D.faults D.told E.moves None AnyData self.old self.new
+            (λ st. start_plan st conn.0 client.0) (code_of result) (payload_of result) }
+        ensures order { InOrder E.state self.new }
+    {
+        let at = self.open_stream(conn, client)?;
+        if self.entries[at].running {
+            return Err(Hr::NOT_STOPPED);
+        }
+        self.entries[at].running = true;
+        Ok(Payload::Nothing)
+    }
+
+    /// IAudioClient::Stop: S_FALSE for a stream that doesn't run.
+    pub fn stop(&mut self, conn: ConnNo, client: ClientNo) -> Result<Payload, Hr>
+        requires order { InOrder E.state self.old }
+        ensures does { Does D.faults D.told E.moves None AnyData self.old self.new
+            (λ st. stop_plan st conn.0 client.0) (code_of result) (payload_of result) }
+        ensures order { InOrder E.state self.new }
+    {
+        let at = self.open_stream(conn, client)?;
+        if !self.entries[at].running {
+            return Err(Hr::S_FALSE);
+        }
+        self.entries[at].running = false;
+        Ok(Payload::Nothing)
+    }
+
+    /// IAudioClient::Reset of a stream that the caller says is leased or not: what is pending is thrown away, and the
+    /// position is 0. S_FALSE if there is nothing to throw away.
+    pub fn reset(&mut self, conn: ConnNo, client: ClientNo, has_lease: bool) -> Result<Payload, Hr>
+        requires order { InOrder E.state self.old }
+        ensures does { Does D.faults D.told E.moves None (IsLeased client.0 has_lease) self.old self.new
+            (λ st. reset_plan st conn.0 client.0) (code_of result) (payload_of result) }
+        ensures order { InOrder E.state self.new }
+    {
+        let at = self.open_stream(conn, client)?;
+        if self.entries[at].running {
+            return Err(Hr::NOT_STOPPED);
+        }
+        if has_lease {
+            return Err(Hr::BUFFER_OPERATION_PENDING);
+        }
+        if !empty(&mut self.entries[at]) {
+            return Err(Hr::S_FALSE);
+        }
+        Ok(Payload::Nothing)
+    }
+}

@@ -1,0 +1,35 @@
+use Rattle.ca_model.specs.declared.event.Event.TheVariants as event
+use Rattle.ca_machine.specs.Periods.{period_plan}
+use Rattle.service_board.specs.Does.{AnyData}
+use Rattle.service_board.specs.Answers.{code_of, payload_of}
+use Rattle.service_core.proofs.CoreCounted.{counted_core}
+use Rattle.service_core.proofs.EventsFall.{keeps_event}
+use Rattle.service_core.proofs.PeriodCounted.{period_counts}
+use Rattle.service_core.proofs.PendingWords.{around_order}
+use Rattle.service_core.proofs.counting.counted_period.Goals as goal
+
+pub period-answer-requires : goal.period-answer-requires
+period-answer-requires g c = record {
+  order = around_order g.F.FrameStore.kept g.F.EngineSide.state g.met.F.FrameStore.whole c.args.board.now
+      c.pending-before.new.board c.pending-before.ensures.looked c.requires.order;
+}
+
+pub returns-clause-core : goal.returns-clause-core
+returns-clause-core g c =
+    counted_core g.D.Devices.faults g.D.Devices.told g.F.FrameStore.kept g.F.EngineSide.state
+    g.met.F.FrameStore.whole g.F.EngineSide.moves g.met.F.FrameStore.exact c.args.board.now c.pending-before.new.board
+    c.period-answer.new.self c.pending-after.new.board c.pending-before.ensures.looked c.pending-after.ensures.looked
+    c.requires c.period-answer.ensures.order c.pending-before.result c.pending-after.result c.saturating_sub.result
+    c.pending-before.ensures.count c.pending-after.ensures.count c.saturating_sub.ensures (AnyData)
+    (λ st. period_plan st c.args.e.0) (code_of c.period-answer.result) (payload_of c.period-answer.result)
+    c.period-answer.ensures.does
+    (tt) (λ st. keeps_event st (event.Period c.args.e) tt)
+
+pub returns-clause-goes : goal.returns-clause-goes
+returns-clause-goes g c tally fits =
+    period_counts g.D.Devices.faults g.D.Devices.told g.F.FrameStore.kept g.F.EngineSide.state
+    g.met.F.FrameStore.whole g.F.EngineSide.moves g.met.F.FrameStore.exact c.args.board.now c.pending-before.new.board
+    c.period-answer.new.self c.pending-after.new.board c.pending-before.ensures.looked c.pending-after.ensures.looked
+    c.requires c.period-answer.ensures.order c.pending-before.result c.pending-after.result c.saturating_sub.result
+    c.pending-before.ensures.count c.pending-after.ensures.count c.saturating_sub.ensures c.args.e
+    c.period-answer.result c.period-answer.ensures.does c.period-answer.ensures.plays tally fits
