@@ -5,14 +5,15 @@ use Rattle.std.specs.List.{position, position_or_len}
 use Rattle.std.proofs.lemmas.Grind.{common_steps}
 use Rattle.std.proofs.lemmas.Bool.Decides.{nat_tests}
 use Rattle.std.proofs.lemmas.List.{map-append, map-set, length-append, get_or-map}
+use Rattle.std.proofs.lemmas.List.Elements.{All-get_or}
 use Rattle.std.proofs.lemmas.List.Folds.{position_or_len_push}
 use Rattle.std.proofs.lemmas.List.Sums.{passes_at_first}
 use Rattle.std.proofs.Math.Seq.{set-append_seam}
-use Rattle.ca_base.specs.declared.ids.EndpointNo.{EndpointNo}
 use Rattle.device_io.specs.declared.kept.KeptFile.{KeptFile}
 use Rattle.std.specs.Io.KnownBytes.{Keeps, Consumes, IsAtEnd}
-use Rattle.device_io.specs.Files.{OpenFile, Moves, GivesFront, MovesAt, StaysAt, is_open_for}
-use Rattle.device_io.specs.KeptFiles.{open_file, open_files, is_kept_for, OpensFor}
+use Rattle.std.specs.declared.fs.options.OpenOptions.{OpenOptions}
+use Rattle.device_io.specs.Files.{OpenFile, Files, Moves, GivesFront, IsFileOf, MovesAt, StaysAt, name_in, is_open_for}
+use Rattle.device_io.specs.KeptFiles.{open_file, open_files, is_kept_for, OpensFor, IsOpened, AreOpened}
 
 -- the kept files once an endpoint has one, by the place at which it had one before
 abbrev OpenedAs : {F : Type 0} → ℕ → List (KeptFile F) → List (KeptFile F) → Option ℕ → Type 0
@@ -92,21 +93,42 @@ moved_as {F} bytes moves e i old mid new d (Some j) found same h it =
     ∙ ap (λ (k : ℕ). open_files bytes (set old k new)) i_is ∙ map-set (open_file bytes) old j new in
     (is, subst (λ (known : Option (List ℕ)). moves known (bytes new.file)) before it)
 
+-- what is said of kept files by a folder and options, is said of them by equal ones
+pub opened_alike : {F : Type 0} {folder folder' : List ℕ} {how how' : OpenOptions} → folder ≡ folder' → how ≡ how'
+    → (files : List (KeptFile F)) → AreOpened folder how files → AreOpened folder' how' files
+opened_alike {F} {folder} {folder'} {how} {how'} same_folder same_how files opened =
+    subst (λ (f : List ℕ). AreOpened f how' files) same_folder
+    (subst (λ (h : OpenOptions). AreOpened folder h files) same_how opened)
+
+-- the kept file of an endpoint is its file, whatever became of its bytes
+is_file_of : {F : Type 0} (bytes : F → Option (List ℕ)) (folder : List ℕ) (how : OpenOptions) (e i : ℕ)
+    (files : List (KeptFile F)) (was : KeptFile F) (file : F) → AreOpened folder how files
+    → Some i ≡ position (is_kept_for e) files → was ≡ get_or files i was
+    → IsFileOf folder how e (open_file bytes (record was { file = file }))
+is_file_of {F} bytes folder how e i files was file opened found at =
+    let inside = (found_within e i files found).1 in
+    let it = subst (λ (kept : KeptFile F). IsOpened folder how kept) (sym at)
+    (All-get_or (IsOpened folder how) files i was inside opened) in
+    let is = ap (λ (kept : KeptFile F). kept.endpoint.0) at ∙ found_is_for e i files was found in
+    record { endpoint = is; name = it.name ∙ ap (name_in folder) is; options = it.options }
+
 -- an endpoint's file was opened, if it wasn't, and its bytes then moved
-moved : {F : Type 0} (bytes : F → Option (List ℕ)) (moves : Moves) (e i : ℕ) (old mid : List (KeptFile F))
-    (was now : KeptFile F) (before : List OpenFile) → open_files bytes old ≡ before → OpensFor e old mid
-    → Some i ≡ position (is_kept_for e) mid → was ≡ get_or mid i was → now.endpoint ≡ was.endpoint
-    → moves (bytes was.file) (bytes now.file) → MovesAt moves e before (open_files bytes (set mid i now))
-moved {F} bytes moves e i old mid was now before seen opens h at same it =
+moved : {F : Type 0} (bytes : F → Option (List ℕ)) (is_meant : Files) (moves : Moves) (e i : ℕ)
+    (old mid : List (KeptFile F)) (was : KeptFile F) (file : F) (before : List OpenFile)
+    → open_files bytes old ≡ before → OpensFor e old mid → Some i ≡ position (is_kept_for e) mid
+    → was ≡ get_or mid i was → is_meant e (open_file bytes (record was { file = file }))
+    → moves (bytes was.file) (bytes file)
+    → MovesAt is_meant moves e before (open_files bytes (set mid i (record was { file = file })))
+moved {F} bytes is_meant moves e i old mid was file before seen opens h at is it =
+    let now : KeptFile F = record was { file = file } in
     let it' = subst (λ (kept : KeptFile F). moves (bytes kept.file) (bytes now.file)) at it in
-    let ends : MovesAt moves e (open_files bytes old) (open_files bytes (set mid i now)) = record {
+    let ends : MovesAt is_meant moves e (open_files bytes old) (open_files bytes (set mid i now)) = record {
       file = open_file bytes now;
-      endpoint = ap (λ (no : EndpointNo). no.0) (same ∙ ap (λ (kept : KeptFile F). kept.endpoint) at)
-          ∙ found_is_for e i mid was h;
+      is = is;
       files = rw place-open_files
           (moved_as bytes moves e i old mid now was (position (is_kept_for e) old) refl opens h it');
     } in
-    subst (λ (files : List OpenFile). MovesAt moves e files (open_files bytes (set mid i now))) seen ends
+    subst (λ (files : List OpenFile). MovesAt is_meant moves e files (open_files bytes (set mid i now))) seen ends
 
 -- a read that gave bytes, and none only at the end, gave the front of what was left
 pub gives_front : (old new : Option (List ℕ)) (buf : List ℕ) (r : Option ℕ)
@@ -116,13 +138,17 @@ gives_front old new buf None gives end = tt
 gives_front old new buf (Some n) gives end = (gives, end)
 
 -- a call on an endpoint's file, once it was open, moved bytes and answered how many, or failed
-pub call_ends : {F : Type 0} (bytes : F → Option (List ℕ)) (moves : ℕ → Moves) (e i : ℕ) (old mid : List (KeptFile F))
-    (was now : KeptFile F) (before : List OpenFile) (r : Option ℕ) → open_files bytes old ≡ before → OpensFor e old mid
-    → Some i ≡ position (is_kept_for e) mid → was ≡ get_or mid i was → now.endpoint ≡ was.endpoint
-    → IfSome r (λ n. moves n (bytes was.file) (bytes now.file)) → IfNone r (Keeps (bytes was.file) (bytes now.file))
-    → MatchOption r (StaysAt e before (open_files bytes (set mid i now)))
-    (λ n. MovesAt (moves n) e before (open_files bytes (set mid i now)))
-call_ends bytes moves e i old mid was now before None seen opens h at same some none =
-    inr (moved bytes Keeps e i old mid was now before seen opens h at same none)
-call_ends bytes moves e i old mid was now before (Some n) seen opens h at same some none =
-    moved bytes (moves n) e i old mid was now before seen opens h at same some
+pub call_ends : {F : Type 0} (bytes : F → Option (List ℕ)) (folder : List ℕ) (how : OpenOptions) (moves : ℕ → Moves)
+    (e i : ℕ) (old mid : List (KeptFile F)) (was : KeptFile F) (file : F) (before : List OpenFile) (r : Option ℕ)
+    → open_files bytes old ≡ before → AreOpened folder how mid → OpensFor e old mid
+    → Some i ≡ position (is_kept_for e) mid → was ≡ get_or mid i was
+    → IfSome r (λ n. moves n (bytes was.file) (bytes file)) → IfNone r (Keeps (bytes was.file) (bytes file))
+    → MatchOption r
+    (StaysAt (IsFileOf folder how) e before (open_files bytes (set mid i (record was { file = file }))))
+    (λ n. MovesAt (IsFileOf folder how) (moves n) e before (open_files bytes (set mid i (record was { file = file }))))
+call_ends bytes folder how moves e i old mid was file before None seen opened opens h at some none =
+    let is = is_file_of bytes folder how e i mid was file opened h at in
+    inr (moved bytes (IsFileOf folder how) Keeps e i old mid was file before seen opens h at is none)
+call_ends bytes folder how moves e i old mid was file before (Some n) seen opened opens h at some none =
+    let is = is_file_of bytes folder how e i mid was file opened h at in
+    moved bytes (IsFileOf folder how) (moves n) e i old mid was file before seen opens h at is some

@@ -1,15 +1,15 @@
 //! Devices that are files of one folder.
 
-ghost use Rattle.std.specs.Prelude.{◌≡◌, ◌<◌, ◌≤◌, length, take, true, None, Some, string_bytes};
+ghost use Rattle.std.specs.Prelude.{◌≡◌, ◌<◌, ◌≤◌, length, take, None, Some, string_bytes};
 ghost use Rattle.std.specs.Prelude.{IfOk, OnErr, IfSome, IfNone, MatchOption};
 ghost use Rattle.std.specs.List.{position};
-ghost use Rattle.std.specs.Fs.{new_options, with_append, with_create, with_read};
 ghost use Rattle.ca_base.specs.Faults.{Counts};
-ghost use Rattle.device_io.specs.Files.{name_in, new_files, AppendsPiece, GivesFront, MovesAt, StaysAt};
-ghost use Rattle.device_io.specs.KeptFiles.{is_kept_for, OpensFor};
+ghost use Rattle.device_io.specs.Files.{name_in, new_files, to_append, to_read};
+ghost use Rattle.device_io.specs.Files.{AppendedIn, ReadIn, AppendsPiece, GivesFront, MovesAt, StaysAt};
+ghost use Rattle.device_io.specs.KeptFiles.{is_kept_for, OpensFor, AreOpened};
 
 use crate::Devices;
-use crate::kept::{KeptFile, keep_open, place_of};
+use crate::kept::{KeptFile, keep_open, open_for, place_of};
 use ca_base::{EndpointNo, Failed, Faults, NoMemory, read_once, write_once};
 use std::alloc::Global;
 use std::fs::OpenOptions;
@@ -38,7 +38,7 @@ pub struct FileDevices<R: Files + Drop> {
 impl<R: Files + Drop> Model for FileDevices<R> {
     ghost use Rattle.std.specs.Prelude.{string_bytes};
     ghost use Rattle.device_io.specs.Files.{FilesState};
-    ghost use Rattle.device_io.specs.KeptFiles.{open_files};
+    ghost use Rattle.device_io.specs.KeptFiles.{open_files, Keeping};
 
     ghost Value = { FilesState };
 
@@ -48,6 +48,8 @@ impl<R: Files + Drop> Model for FileDevices<R> {
       read = open_files R.File.remaining d.read.items;
       faults = d.faults;
     } };
+
+    ghost invariant = { λ d. Keeping (string_bytes d.folder.name) d.appended.items d.read.items };
 }
 
 impl<R: Files + Drop> FileDevices<R> {
@@ -77,11 +79,13 @@ impl<R: Files + Drop> FileDevices<R> {
         requires { 0 < length piece.now }
         ensures some { IfSome result (λ n. 0 < n) }
         ensures count { IfSome result (λ n. n ≤ length piece.now) }
-        ensures ends { MatchOption result (StaysAt e.0 self.old.appended self.new.appended) (λ n.
-            MovesAt (AppendsPiece (take n piece.now)) e.0 self.old.appended self.new.appended) }
+        ensures ends { MatchOption result
+            (StaysAt (AppendedIn self.old.folder) e.0 self.old.appended self.new.appended)
+            (λ n. MovesAt (AppendedIn self.old.folder) (AppendsPiece (take n piece.now)) e.0
+            self.old.appended self.new.appended) }
         ensures others { self.new ≡ record self.old { appended = self.new.appended } }
     {
-        let place = place_opened(&self.folder, &append_options(), &mut self.appended, e)?;
+        let place = place_opened(&self.folder, append_options(), &mut self.appended, e)?;
         write_once(&mut self.appended[place].file, piece)
     }
 
@@ -89,11 +93,12 @@ impl<R: Files + Drop> FileDevices<R> {
     fn read_on(&mut self, e: EndpointNo, buf: &mut [u8]) -> Option<usize>
         requires { 0 < length buf.old }
         ensures count { IfSome result (λ n. n ≤ length buf.new) }
-        ensures ends { MatchOption result (StaysAt e.0 self.old.read self.new.read) (λ n.
-            MovesAt (GivesFront n buf.new) e.0 self.old.read self.new.read) }
+        ensures ends { MatchOption result
+            (StaysAt (ReadIn self.old.folder) e.0 self.old.read self.new.read)
+            (λ n. MovesAt (ReadIn self.old.folder) (GivesFront n buf.new) e.0 self.old.read self.new.read) }
         ensures others { self.new ≡ record self.old { read = self.new.read } }
     {
-        let place = place_opened(&self.folder, &read_options(), &mut self.read, e)?;
+        let place = place_opened(&self.folder, read_options(), &mut self.read, e)?;
         read_once(&mut self.read[place].file, buf)
     }
 }
@@ -110,8 +115,9 @@ impl<R: Files + Drop> Devices for FileDevices<R> {
         ensures count { IfOk result (λ n. n ≤ length piece.now) }
         ensures cause { Counts result self.old.faults self.new.faults }
         ensures takes { IfOk result (λ n.
-            MovesAt (AppendsPiece (take n piece.now)) e.0 self.old.appended self.new.appended) }
-        ensures err { OnErr result (StaysAt e.0 self.old.appended self.new.appended) }
+            MovesAt (AppendedIn self.old.folder) (AppendsPiece (take n piece.now)) e.0
+            self.old.appended self.new.appended) }
+        ensures err { OnErr result (StaysAt (AppendedIn self.old.folder) e.0 self.old.appended self.new.appended) }
         ensures others { self.new ≡
             record self.old { appended = self.new.appended; faults = self.new.faults } }
     {
@@ -126,8 +132,9 @@ impl<R: Files + Drop> Devices for FileDevices<R> {
         requires { 0 < length buf.old }
         ensures count { IfOk result (λ n. n ≤ length buf.new) }
         ensures cause { Counts result self.old.faults self.new.faults }
-        ensures gives { IfOk result (λ n. MovesAt (GivesFront n buf.new) e.0 self.old.read self.new.read) }
-        ensures err { OnErr result (StaysAt e.0 self.old.read self.new.read) }
+        ensures gives { IfOk result (λ n.
+            MovesAt (ReadIn self.old.folder) (GivesFront n buf.new) e.0 self.old.read self.new.read) }
+        ensures err { OnErr result (StaysAt (ReadIn self.old.folder) e.0 self.old.read self.new.read) }
         ensures others { self.new ≡ record self.old { read = self.new.read; faults = self.new.faults } }
     {
         match self.read_on(e, buf) {
@@ -142,20 +149,22 @@ impl<R: Files + Drop> Devices for FileDevices<R> {
 #[tactic(auto, using(crate::proofs::OpenFiles::found_new))]
 fn place_opened<R: Files + Drop>(
     folder: &Folder<R>,
-    options: &OpenOptions,
+    options: OpenOptions,
     files: &mut Vec<KeptFile<R::File>>,
     e: EndpointNo,
 ) -> Option<usize>
+    requires { AreOpened (string_bytes folder.now.name) options files.old.items }
     ensures place { IfSome result (λ i. Some i ≡ position (is_kept_for e.0) files.new.items) }
     ensures opens { IfSome result (λ i. OpensFor e.0 files.old.items files.new.items) }
+    ensures opened { AreOpened (string_bytes folder.now.name) options files.new.items }
     ensures none { IfNone result (files.new.items ≡ files.old.items) }
 {
     match place_of(files, e) {
         Some(place) => Some(place),
         None => {
             let name = file_name(folder.alloc, folder.name.as_str(), e)?;
-            let file = options.open(&folder.rt, name.as_str()).ok()?;
-            keep_open(files, e, file)
+            let kept = open_for(&folder.rt, e, name, options)?;
+            keep_open(files, kept)
         }
     }
 }
@@ -169,7 +178,7 @@ fn file_name(alloc: Global, folder: &str, e: EndpointNo) -> Option<String>
 
 /// How a file is opened that is appended to: it is made if it is missing.
 fn append_options() -> OpenOptions
-    ensures { result ≡ with_create (with_append new_options true) true }
+    ensures { result ≡ to_append }
 {
     let mut options = OpenOptions::new();
     options.append(true).create(true);
@@ -178,7 +187,7 @@ fn append_options() -> OpenOptions
 
 /// How a file is opened that is read.
 fn read_options() -> OpenOptions
-    ensures { result ≡ with_read new_options true }
+    ensures { result ≡ to_read }
 {
     let mut options = OpenOptions::new();
     options.read(true);
