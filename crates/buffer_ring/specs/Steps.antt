@@ -1,5 +1,5 @@
 -- Steps of the two ends of a store, and what the engine's end knows of it (this project's own).
-use Rattle.std.specs.Prelude.{ℕ, ◌+◌, ◌-◌, ◌≡◌, List, [], ◌∷◌, length}
+use Rattle.std.specs.Prelude.{ℕ, suc, ◌+◌, ◌-◌, ◌≡◌, List, [], ◌∷◌, length}
 use Rattle.ca_base.specs.declared.ids.Gate.{Gate}
 use Rattle.ca_base.specs.declared.ids.Gate.TheVariants as gate
 use Rattle.buffer_ring.specs.declared.step.Deed.{Deed}
@@ -25,6 +25,11 @@ abbrev pub state_after : EndState → Step → EndState
 state_after st (step.Acts found seen deed) =
     record st { gate = gate_after st.gate deed; seen = words_after found deed }
 state_after st (step.Reads place word) = st
+
+-- reads of these words, from a place on
+abbrev pub reads_from : ℕ → List ℕ → List Step
+reads_from place [] = []
+reads_from place (word ∷ words) = step.Reads place word ∷ reads_from (suc place) words
 
 -- the gate is open
 abbrev pub IsOpenGate : Gate → Type 0

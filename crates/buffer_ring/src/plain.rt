@@ -1,6 +1,6 @@
 //! A store that one thread holds: a ring of words, and a gate.
 
-ghost use Rattle.std.specs.Prelude.{◌≡◌, ◌≤◌, ◌^◌, length};
+ghost use Rattle.std.specs.Prelude.{◌≡◌, ◌+◌, ◌≤◌, ◌^◌, ◌++◌, length, take, drop};
 
 use crate::{EngineSide, FrameStore, Put, Retired};
 use ca_base::{Dir, Gate, NoMemory, Reason, Seen};
@@ -40,6 +40,21 @@ impl PlainStore {
     }
 }
 
+/// Copies the words from place `i` on of a list that stands in two pieces, as many as fill the slice.
+fn copy_from(front: &[u64], back: &[u64], i: usize, words: &mut [u64])
+    requires { i + length words.old ≤ length front.now + length back.now }
+    ensures { words.new ≡ take (length words.old) (drop i (front.now ++ back.now)) }
+{
+    let skipped = i.min(front.len());
+    let (_, front) = front.split_at(skipped);
+    let (_, back) = back.split_at(i - skipped);
+    let from_front = words.len().min(front.len());
+    let from_back = words.len() - from_front;
+    let (start, rest) = words.split_at_mut(from_front);
+    start.copy_from_slice(&front[..from_front]);
+    rest.copy_from_slice(&back[..from_back]);
+}
+
 impl EngineSide for PlainStore {
     ghost use Rattle.buffer_ring.specs.Kept.{state_of, RunsSteps};
     ghost use Rattle.buffer_ring.specs.Plain.{RunsSteps-append, state_of-after};
@@ -61,6 +76,11 @@ impl EngineSide for PlainStore {
 
     fn get(&mut self, i: u32) -> u64 {
         self.client_get(i)
+    }
+
+    fn read(&mut self, i: u32, words: &mut [u64]) {
+        let (front, back) = self.words.as_slices();
+        copy_from(front, back, i as usize, words);
     }
 
     fn retire(&mut self, n: u32) {

@@ -7,7 +7,7 @@ ghost use Rattle.buffer_ring.specs.declared.step.Deed.TheVariants as deed;
 ghost use Rattle.buffer_ring.specs.declared.step.EndState.{EndState as TheState};
 ghost use Rattle.buffer_ring.specs.declared.step.Step.{Step as TheStep};
 ghost use Rattle.buffer_ring.specs.declared.step.Step.TheVariants as step;
-ghost use Rattle.buffer_ring.specs.Steps.{state_after};
+ghost use Rattle.buffer_ring.specs.Steps.{reads_from, state_after};
 ghost use Rattle.buffer_ring.specs.Kept.{Kept, new_store, state_of, RunsSteps, PutsWords, RetiresWords};
 
 use ca_base::{Dir, Gate, NoMemory, Reason, Seen};
@@ -44,6 +44,13 @@ pub trait EngineSide: Drop {
     fn get(&mut self, i: u32) -> u64
         requires { i < (state self.old).seen }
         ensures { moves self.old (step.Reads i result ∷ []) self.new };
+
+    /// Copies the words from place `i` on out, as many as fill the slice.
+    fn read(&mut self, i: u32, words: &mut [u64])
+        requires { i + length words.old ≤ (state self.old).seen }
+        ensures size { length words.new ≡ length words.old }
+        ensures reads { moves self.old (reads_from i words.new) self.new }
+        ensures keeps { state self.new ≡ state self.old };
 
     /// Takes `n` words off the front.
     fn retire(&mut self, n: u32)

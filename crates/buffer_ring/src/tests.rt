@@ -23,6 +23,11 @@ fn a_client_puts_and_the_engine_takes(rt: HostRuntime) -> Result<(), Fail> {
     assert_eq!(rt; store.look(), open(4));
     assert_eq!(rt; store.get(1), 4);
     assert_eq!(rt; store.get(3), 6);
+    let mut words = [0; 3];
+    store.read(1, &mut words);
+    assert_eq!(rt; words, [4, 5, 6]);
+    store.read(0, &mut words);
+    assert_eq!(rt; words, [3, 4, 5]);
     Ok(())
 }
 

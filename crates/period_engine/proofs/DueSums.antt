@@ -46,10 +46,11 @@ use Rattle.ca_stage.specs.Moves.{Mixing}
 use Rattle.ca_stage.specs.Mix.{sample_of, contribution, due_frames, streams_on}
 use Rattle.buffer_ring.specs.declared.step.EndState.{EndState}
 use Rattle.buffer_ring.specs.declared.step.Step.{Step}
+use Rattle.buffer_ring.specs.Steps.{reads_from}
 use Rattle.period_engine.specs.declared.entry.StreamEntry.{StreamEntry}
 use Rattle.period_engine.specs.Entries.{streams_of, is_played}
 use Rattle.period_engine.specs.Agreement.{Agrees, AllAgree}
-use Rattle.period_engine.specs.Added.{sum_at, reads_from, Threads, AddsEntry}
+use Rattle.period_engine.specs.Added.{sum_at, Threads, AddsEntry}
 use Rattle.period_engine.proofs.SoundSteps.{Follows}
 
 -- what an entry adds to a channel at a place, by its frames

@@ -1,6 +1,7 @@
 pub mod Passes
 pub mod Pieces
 pub mod SumSteps
+pub mod WordBlocks
 pub mod StoreReads
 pub mod SampleBytes
 pub mod Rows

@@ -25,10 +25,11 @@ use Rattle.ca_stage.specs.Stage.{BufferData}
 use Rattle.ca_stage.specs.Order.{RisesFrom}
 use Rattle.buffer_ring.specs.declared.step.EndState.{EndState}
 use Rattle.buffer_ring.specs.declared.step.Step.{Step}
+use Rattle.buffer_ring.specs.Steps.{reads_from}
 use Rattle.period_engine.specs.declared.entry.StreamEntry.{StreamEntry}
 use Rattle.period_engine.specs.Agreement.{data_after}
 use Rattle.period_engine.specs.Sounds.{TakesSteps, AllTakeSteps}
-use Rattle.period_engine.specs.Added.{Threads, AddsEntry, reads_from}
+use Rattle.period_engine.specs.Added.{Threads, AddsEntry}
 
 pub reads_leave : (channels start : ℕ) (words : List ℕ) (d : BufferData)
     → data_after channels (reads_from start words) d ≡ d

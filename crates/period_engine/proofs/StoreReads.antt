@@ -1,40 +1,63 @@
--- Reads of a store, one word more.
-use Rattle.std.proofs.Common.{◌≡◌, ℕ, suc, ◌+◌, ◌*◌, ℤ, List, [], ◌∷◌, ◌++◌, length, sym, ap, subst, ◌∙◌, arith}
-use Rattle.std.proofs.lemmas.List.{length_push}
+-- Reads of a store, more words at a time.
+use Rattle.std.proofs.Common.{
+  ◌≡◌,
+  ℕ,
+  suc,
+  ◌+◌,
+  ◌*◌,
+  ◌≤◌,
+  ℤ,
+  List,
+  [],
+  ◌∷◌,
+  ◌++◌,
+  length,
+  take,
+  drop,
+  sym,
+  ap,
+  subst,
+  ◌∙◌,
+  arith,
+  length-append,
+}
 use Rattle.buffer_ring.specs.declared.step.EndState.{EndState}
 use Rattle.buffer_ring.specs.declared.step.Step.{Step}
 use Rattle.buffer_ring.specs.declared.step.Step.TheVariants as step
-use Rattle.buffer_ring.specs.Steps.{state_after}
-use Rattle.period_engine.specs.Added.{AddsWord, AddsStore, reads_from}
-use Rattle.period_engine.proofs.SumSteps.{one_word}
+use Rattle.buffer_ring.specs.Steps.{reads_from}
+use Rattle.period_engine.specs.Added.{AddsWords, AddsStore}
+use Rattle.period_engine.proofs.WordBlocks.{more_words}
 
-reads_push : (start : ℕ) (words : List ℕ) (word : ℕ)
-    → reads_from start (words ++ word ∷ []) ≡ reads_from start words ++ step.Reads (start + length words) word ∷ []
-reads_push start [] word = ap (λ place. step.Reads place word ∷ []) (omega arith)
-reads_push start (w ∷ words) word =
-    let here : suc start + length words ≡ start + suc (length words) = omega arith in
-    ap (λ steps. step.Reads start w ∷ steps)
-    (reads_push (suc start) words word ∙ ap (λ place. reads_from (suc start) words ++ step.Reads place word ∷ []) here)
+reads_append : (start : ℕ) (words more : List ℕ)
+    → reads_from start words ++ reads_from (start + length words) more ≡ reads_from start (words ++ more)
+reads_append start [] more =
+    let here : start + 0 ≡ start = omega arith in
+    ap (λ place. reads_from place more) here
+reads_append start (word ∷ words) more =
+    let here : start + suc (length words) ≡ suc start + length words = omega arith in
+    ap (λ steps. step.Reads start word ∷ steps)
+    (ap (λ place. reads_from (suc start) words ++ reads_from place more) here ∙ reads_append (suc start) words more)
 
 module _ {E : Type 0} {moves : E → List Step → E → Type 0} {state : E → EndState} {gains : List ℕ}
-    {channels place at : ℕ} {a b : E} {old mid : List ℤ}
+    {channels place : ℕ} {a b : E} {old mid : List ℤ}
     (so_far : AddsStore moves state gains channels place a b old mid)
-    (joins : (a b c : E) (xs ys : List Step) → moves a xs b → moves b ys c → moves a (xs ++ ys) c)
-    (goes : (a b : E) (s : Step) → moves a (s ∷ []) b → state b ≡ state_after (state a) s) where
-  pub one_read : (c : E) (word : ℕ) (new : List ℤ) → at ≡ channels * place → moves b (step.Reads place word ∷ []) c
-      → AddsWord gains channels word at mid new → AddsStore moves state gains channels (place + 1) a c old new
-  one_read c word new at-is made adds =
-      let words = so_far.words in
-      let steps : reads_from 0 words ++ step.Reads place word ∷ [] ≡ reads_from 0 (words ++ word ∷ []) =
-      ap (λ p. reads_from 0 words ++ step.Reads p word ∷ []) (sym so_far.count_is ∙ omega arith)
-      ∙ sym (reads_push 0 words word) in
+    (joins : (a b c : E) (xs ys : List Step) → moves a xs b → moves b ys c → moves a (xs ++ ys) c) where
+  -- a block of words more was read and added
+  pub one_block : (c : E) (words : List ℕ) (size : ℕ) (part : List ℤ) → length words ≡ size
+      → channels * place ≤ length mid → moves b (reads_from place words) c → state c ≡ state b
+      → AddsWords gains channels words (drop (channels * place) mid) part
+      → AddsStore moves state gains channels (place + size) a c old (take (channels * place) mid ++ part)
+  one_block c words size part is within made keeps adds =
+      let before = so_far.words in
+      let at : channels * place ≡ channels * length before = ap (λ n. channels * n) (sym so_far.count_is) in
+      let here : place ≡ 0 + length before = omega (arith, so_far.count_is) in
+      let steps : reads_from 0 before ++ reads_from place words ≡ reads_from 0 (before ++ words) =
+      ap (λ p. reads_from 0 before ++ reads_from p words) here ∙ reads_append 0 before words in
       record {
-        words = words ++ word ∷ [];
-        count_is = length_push words word ∙ ap (λ n. n + 1) so_far.count_is;
+        words = before ++ words;
+        count_is = omega (arith, length-append before words, so_far.count_is, is);
         made = subst (λ ss. moves a ss c) steps
-            (joins a b c (reads_from 0 words) (step.Reads place word ∷ []) so_far.made made);
-        knows = goes b c (step.Reads place word) made ∙ so_far.knows;
-        adds = one_word so_far.adds
-            (subst (λ p. AddsWord gains channels word p mid new)
-            (at-is ∙ ap (λ n. channels * n) (sym so_far.count_is)) adds);
+            (joins a b c (reads_from 0 before) (reads_from place words) so_far.made made);
+        knows = keeps ∙ so_far.knows;
+        adds = more_words so_far.adds (channels * place) at within adds;
       }

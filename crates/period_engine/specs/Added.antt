@@ -3,7 +3,6 @@
 use Rattle.std.specs.Prelude.{
   ◌≡◌,
   ℕ,
-  suc,
   ◌+◌,
   ◌*◌,
   ◌^◌,
@@ -26,7 +25,7 @@ use Rattle.volume_stack.specs.Scaling.{unit_gain, scaled}
 use Rattle.volume_stack.specs.Sums.{sample_limit}
 use Rattle.buffer_ring.specs.declared.step.EndState.{EndState}
 use Rattle.buffer_ring.specs.declared.step.Step.{Step}
-use Rattle.buffer_ring.specs.declared.step.Step.TheVariants as step
+use Rattle.buffer_ring.specs.Steps.{reads_from}
 use Rattle.period_engine.specs.declared.entry.StreamEntry.{StreamEntry}
 use Rattle.period_engine.specs.Sounds.{TakesSteps}
 
@@ -62,11 +61,6 @@ pub record AddsWords (gains : List ℕ) (channels : ℕ) (words : List ℕ) (old
       ≡ sum_at old (channels * place + channel) +ℤ share gains (slice_index words place) channel
   pub after : (k : ℕ) → channels * length words ≤ k → sum_at new k ≡ sum_at old k
   pub stay : StayNear old new
-
--- reads of these words, from a place on
-abbrev pub reads_from : ℕ → List ℕ → List Step
-reads_from place [] = []
-reads_from place (word ∷ words) = step.Reads place word ∷ reads_from (suc place) words
 
 -- so many words of a store were read and added
 pub record AddsStore {E : Type 0} (moves : E → List Step → E → Type 0) (state : E → EndState) (gains : List ℕ)

@@ -5,12 +5,15 @@ ghost use Rattle.std.specs.List.{All};
 ghost use Rattle.volume_stack.specs.Scaling.{unit_gain};
 ghost use Rattle.volume_stack.specs.Sums.{AreWithin, sum_limit};
 ghost use Rattle.ca_base.specs.declared.limits.TheConstants.{CLIENTS};
-ghost use Rattle.period_engine.specs.Added.{AddsEntry, AddsStore, AddsWord, IsAddable, Threads, most_sum, sum_at};
+ghost use Rattle.period_engine.specs.Added.{AddsEntry, AddsStore, AddsWord, AddsWords, IsAddable, Threads, most_sum, sum_at};
 
 use crate::StreamEntry;
 use buffer_ring::EngineSide;
 use volume_stack::scaled_sample;
 use wave_format::unpack;
+
+/// How many words are read of a store at a time, onto the stack.
+const BLOCK: u32 = 64;
 
 /// Adds the samples of a frame's word, each times its channel's gain and toward zero, to the sums from `at` on.
 #[inline(always)]
@@ -23,6 +26,22 @@ fn add_word(word: u64, channels: usize, gains: &[u32; 4], at: usize, sums: &mut 
 {
     for channel in 0..channels {
         sums[at + channel] += scaled_sample(unpack(word, channel as u16), gains[channel]);
+    }
+}
+
+/// Adds the frames of these words to the sums from the first on.
+#[inline(always)]
+fn add_block(words: &[u64], channels: usize, gains: &[u32; 4], sums: &mut [i32])
+    requires few { channels ≤ 4 }
+    requires gains { All (λ gain. gain ≤ unit_gain) gains.now }
+    requires room { channels * length words.now ≤ length sums.old }
+    requires sums { AreWithin most_sum sums.old }
+    ensures { AddsWords gains.now channels words.now sums.old sums.new }
+{
+    let mut at = 0;
+    for place in 0..words.len() {
+        add_word(words[place], channels, gains, at, sums);
+        at += channels;
     }
 }
 
@@ -42,11 +61,15 @@ fn add_words<E: EngineSide>(
     requires sums { AreWithin most_sum sums.old }
     ensures { AddsStore E.moves E.state gains.now channels count store.old store.new sums.old sums.new }
 {
-    let mut at = 0;
-    for place in 0..count {
-        let word = store.get(place);
-        add_word(word, channels, gains, at, sums);
-        at += channels;
+    let mut block = [0; BLOCK as usize];
+    let mut place = 0;
+    while place < count {
+        let size = (count - place).min(BLOCK);
+        let words = &mut block[..size as usize];
+        store.read(place, words);
+        let (_, rest) = sums.split_at_mut(channels * place as usize);
+        add_block(words, channels, gains, rest);
+        place += size;
     }
 }
 

@@ -35,6 +35,10 @@ impl<F: FrameStore> EngineSide for BothEnds<F> {
         self.store.get(i)
     }
 
+    fn read(&mut self, i: u32, words: &mut [u64]) {
+        self.store.read(i, words);
+    }
+
     fn retire(&mut self, n: u32) {
         self.store.retire(n);
     }
