@@ -1,0 +1,5 @@
+pub mod Calls
+pub mod Finding
+pub mod Joins
+pub mod Limits
+pub mod Texts

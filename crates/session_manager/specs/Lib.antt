@@ -1,0 +1,5 @@
+pub mod Sessions
+pub mod Rows
+pub mod Changes
+pub mod Book
+pub mod Names
