@@ -49,6 +49,21 @@ class Bench(unittest.TestCase):
                                  + (["GetBuffer", "ReleaseBuffer"] * count + ["Period"]) * 3)
                 self.assertEqual(source.played, 3 * 1920)
 
+    def test_streams_with_gains(self):
+        source = bench.streams(self.folder / "events", 64, 1, levels=True)
+        events = self.events(source)
+        levels = {(event.values["client"], event.values["level"]) for event in events if event.name == "SetStreamLevel"}
+        self.assertEqual(len(levels), 128)
+        self.assertEqual([event.name for event in events[2:7]],
+                         ["Activate", "Initialize", "Start", "SetStreamLevel", "SetStreamLevel"])
+        self.assertEqual(source.played, 1920)
+
+    def test_levels(self):
+        source = bench.levels(self.folder / "events", 5, 2)
+        names = [event.name for event in self.events(source)]
+        self.assertEqual(names[5:], (["SetMaster"] * 5 + ["Period"]) * 2)
+        self.assertEqual(source.played, 2 * 1920)
+
     def test_the_floors_copy_the_input(self):
         source = bench.small_events(self.folder / "events", 100)
         for name, run in bench.runners_of("none", source).items():

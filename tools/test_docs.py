@@ -27,7 +27,8 @@ PATH = re.compile(r"(?:\./)?[\w.*-]*(?:/[\w.*-]+)+/?|[\w*-]+/|[\w*-]+\.(?:rt|ant
 COMMENT = {".rt": r"//.*", ".antt": r"--.*"}
 
 BUILT = "crates/audio_daemon/out/audio_daemon"  # the program, which the gate makes
-PLACEHOLDERS = {"FOLDER", "FILE", "SCRIPT", "NAME", "CODE", "N", "P"}  # each stands for a word of the reader's
+# each stands for a word of the reader's
+PLACEHOLDERS = {"FOLDER", "FILE", "SCRIPT", "NAME", "CODE", "GUID", "PROCESS", "N", "P"}
 OUTSIDE = {"unsafe", "memcpy", "memset", "valgrind", "callgrind"}  # words of the language and the system
 
 
@@ -235,6 +236,8 @@ def on_the_wire(type_name):
         return size, least, 256 ** size - 1 if most is None else most
     if type_name == "guid":
         return "guid", 0, 2 ** 128 - 1
+    if type_name.endswith("[]"):
+        return f"list of {wire.SIZES[type_name[:-2]]}", 0, None
     return "counted" if type_name in ("text", "format") else "rest", least, most
 
 
@@ -289,15 +292,14 @@ class Tables(unittest.TestCase):
 
     def test_values_with_names(self):
         types = {"STATE": "state", "FLOW": "flow", "ROLE": "role", "SHARE": "share", "STREAM": "stream_flags",
-                 "BUFFER": "buffer_flags", "KIND": "kind", "SESSION": None}
+                 "BUFFER": "buffer_flags", "KIND": "kind", "SESSION": "session_state"}
         names = {**wire.NAMES, "kind": {name.lower(): s.kind for name, s in wire.SHAPES.items() if s.code is None}}
         for constant, value in re.findall(r"const (\w+): u\w+ = (\w+);", text_of("crates/ca_base/src/values.rt")):
             prefix, name = constant.split("_", 1)
-            if types[prefix]:
-                with self.subTest(constant):
-                    of_type = names[types[prefix]]
-                    known = next((known for known in of_type if name.lower().endswith(known)), None)
-                    self.assertEqual(of_type.get(known), int(value, 0))
+            with self.subTest(constant):
+                of_type = names[types[prefix]]
+                known = max((known for known in of_type if name.lower().endswith(known)), key=len, default=None)
+                self.assertEqual(of_type.get(known), int(value, 0))
 
     def test_the_length_of_a_frame(self):
         self.assertEqual(wire.LIMITS["length"], (1, constants()["LONGEST_BODY"]))
@@ -335,8 +337,8 @@ class Tables(unittest.TestCase):
     def forms(self, listed):
         """The sizes or forms of the fields that a row lists, such as `client (8), format, data (rest)`."""
         words = {"text": "counted", "format": "counted", "GUID": "guid", "rest": "rest", "connection": 1}
-        fields = [re.sub(r".*\((\w+)\)$", r"\1", field) for field in listed.split(", ")]
-        return [int(field) if field.isdigit() else words[field] for field in fields]
+        fields = [re.sub(r".*\(([\w ]+)\)$", r"\1", field) for field in listed.split(", ")]
+        return [int(field) if field.isdigit() else words.get(field, field) for field in fields]
 
 
 if __name__ == "__main__":

@@ -10,6 +10,7 @@ import io
 from collections import namedtuple
 
 NULL_GUID = bytes(16)
+FULL_LEVEL = 65536
 S_OK, S_FALSE = 0, 1
 
 RESULTS = {
@@ -25,9 +26,9 @@ RESULTS = {
     "S_BUFFER_EMPTY": 0x08890001, "KEEPER_FAULT": 0xA0040001, "CLIENTS_FULL": 0xA0040002,
     "SESSIONS_FULL": 0xA0040003, "ENDPOINTS_FULL": 0xA0040004, "WORN": 0xA0040005}
 
-SIZES = {  # the bytes of each type of numbers; a time is in units of 100 ns
+SIZES = {  # the bytes of each type of numbers; a time is in units of 100 ns, a level is from 0 to FULL_LEVEL
     "u8": 1, "u16": 2, "u32": 4, "u64": 8, "length": 4, "kind": 1, "conn": 1, "time": 8, "flow": 1,
-    "role": 1, "state": 4, "share": 4, "stream_flags": 4, "buffer_flags": 4}
+    "role": 1, "state": 4, "share": 4, "stream_flags": 4, "buffer_flags": 4, "level": 4, "session_state": 1}
 LIMITS = {  # of numbers, if they are narrower than their bytes, and of the lengths of the other types
     "length": (1, 4_194_304), "kind": (1, 7), "conn": (1, 32), "text": (0, 256), "format": (0, 0xFFFF),
     "guid": (16, 16)}
@@ -35,6 +36,7 @@ NAMES = {  # of values; of the types in JOINED a value may be several of these, 
     "flow": {"render": 0, "capture": 1, "all": 2},
     "role": {"console": 0, "multimedia": 1, "communications": 2, "none": 255},
     "state": {"active": 1, "disabled": 2, "notpresent": 4, "unplugged": 8},
+    "session_state": {"inactive": 0, "active": 1, "expired": 2},
     "share": {"shared": 0, "exclusive": 1},
     "stream_flags": {"crossprocess": 1 << 16, "loopback": 1 << 17, "eventcallback": 1 << 18,
                      "nopersist": 1 << 19},
@@ -76,28 +78,28 @@ EVENTS = [  # kind, code, event, fields, payload of S_OK
     (3, 26, "SetEventHandle", "client:u64 handle:u64", ""),
     (3, 27, "GetService", "client:u64 service:u32", ""),
     (3, 28, "GetPosition", "client:u64", "position:u64 rate:u64"),
-    (3, 29, "GetStreamLevel", "client:u64 channel:u32", "level:u32"),
-    (3, 30, "SetStreamLevel", "client:u64 channel:u32 level:u32", ""),
+    (3, 29, "GetStreamLevel", "client:u64 channel:u32", "level:level"),
+    (3, 30, "SetStreamLevel", "client:u64 channel:u32 level:level", ""),
     (3, 32, "GetBuffer", "client:u64 frames:u32", ""),
     (3, 33, "ReleaseBuffer", "client:u64 frames:u32 flags:buffer_flags? bytes:rest", ""),
     (3, 34, "GetNextPacketSize", "client:u64", "frames:u32"),
     (3, 35, "CaptureGetBuffer", "client:u64", "frames:u32 flags:buffer_flags position:u64 bytes:rest"),
     (3, 36, "CaptureReleaseBuffer", "client:u64 frames:u32", ""),
     (3, 48, "EnumSessions", "endpoint:u32", "sessions:u64[]"),
-    (3, 49, "GetSession", "session:u64", "endpoint:u32 process:u32 state:u8 level:u32 mute:u8 levels:u32[] "
-     "duck:u32 optout:u8 grouping:guid identifier:text instance:text display:text icon:text"),
-    (3, 50, "SetMaster", "session:u64 level:u32 context:guid?", ""),
+    (3, 49, "GetSession", "session:u64", "endpoint:u32 process:u32 state:session_state level:level mute:u8 "
+     "levels:level[] duck:level optout:u8 grouping:guid identifier:text instance:text display:text icon:text"),
+    (3, 50, "SetMaster", "session:u64 level:level context:guid?", ""),
     (3, 51, "SetMute", "session:u64 mute:u8 context:guid?", ""),
-    (3, 52, "SetChannel", "session:u64 channel:u32 level:u32 context:guid?", ""),
+    (3, 52, "SetChannel", "session:u64 channel:u32 level:level context:guid?", ""),
     (3, 53, "SetDisplayName", "session:u64 context:guid? text:text", ""),
     (3, 54, "SetIconPath", "session:u64 context:guid? text:text", ""),
     (3, 55, "SetGrouping", "session:u64 grouping:guid context:guid?", ""),
     (3, 56, "SetDuckPreference", "session:u64 optout:u8", ""),
     (3, 57, "GetDuckRule", "", "rule:u8"),
-    (3, 64, "GetEndpointVolume", "endpoint:u32", "level:u32 mute:u8 levels:u32[]"),
-    (3, 65, "SetEndpointMaster", "endpoint:u32 level:u32 context:guid?", ""),
+    (3, 64, "GetEndpointVolume", "endpoint:u32", "level:level mute:u8 levels:level[]"),
+    (3, 65, "SetEndpointMaster", "endpoint:u32 level:level context:guid?", ""),
     (3, 66, "SetEndpointMute", "endpoint:u32 mute:u8 context:guid?", ""),
-    (3, 67, "SetEndpointChannel", "endpoint:u32 channel:u32 level:u32 context:guid?", ""),
+    (3, 67, "SetEndpointChannel", "endpoint:u32 channel:u32 level:level context:guid?", ""),
     (3, 72, "Parts", "endpoint:u32 part:u32 direction:u8", "parts:u32[]"),
     (3, 73, "PartInfo", "endpoint:u32 part:u32", "kind:u8 name:text"),
     (3, 74, "GetPartLevel", "endpoint:u32 part:u32 channel:u32", "step:u32"),

@@ -10,6 +10,8 @@ ghost use Rattle.audio_daemon.specs.StatusLine.{Finishes};
 #[cfg(test)]
 mod rows;
 mod run;
+#[cfg(test)]
+mod session_rows;
 mod status_line;
 #[cfg(test)]
 mod tests;

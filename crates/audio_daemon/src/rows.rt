@@ -7,11 +7,13 @@ use crate::tests::{ACTIVATE, ADD, INITIALIZE, OPEN, joined, replay};
 use std::alloc::Global;
 use std::test::Fail;
 
-/// What is asked of connection 1 and endpoint 1.
+/// What is asked of endpoint 1, and of connection 1 if no other is named.
 #[derive(Clone, Copy)]
-enum Ask {
+pub enum Ask {
     /// A call's code, and the bytes of its fields. Its tag is 9.
     Call(u8, &'static [u8]),
+    /// The same on another connection.
+    On(u8, u8, &'static [u8]),
     Period,
     Hangup,
     /// The connection opens, as in `OPEN`.
@@ -19,12 +21,12 @@ enum Ask {
 }
 
 /// What is asked, and the code and payload of its reply.
-type Exchange = (Ask, u32, &'static [u8]);
+pub type Exchange = (Ask, u32, &'static [u8]);
 
 /// The events that come first, and what is asked then.
-type Row = (&'static [&'static [u8]], &'static [Exchange]);
+pub type Row = (&'static [&'static [u8]], &'static [Exchange]);
 
-const S_OK: u32 = 0;
+pub const S_OK: u32 = 0;
 
 const S_FALSE: u32 = 1;
 
@@ -32,7 +34,7 @@ const E_NOTIMPL: u32 = 0x8000_4001;
 
 const E_NOINTERFACE: u32 = 0x8000_4002;
 
-const E_HANDLE: u32 = 0x8007_0006;
+pub const E_HANDLE: u32 = 0x8007_0006;
 
 const NOT_INITIALIZED: u32 = 0x8889_0001;
 
@@ -277,38 +279,42 @@ fn size_of(bytes: &[u8]) -> u32
     bytes.len().min(65_536) as u32
 }
 
+/// Puts the frame of a call behind the input. Answers the head of its reply.
+fn put_call(conn: u8, code: u8, fields: &[u8], input: &mut Vec<u8>) -> Result<[u8; 6], Fail> {
+    input.extend_from_slice(&(size_of(fields) + 7).to_le_bytes())?;
+    input.extend_from_slice(&[3, conn, 9, 0, 0, 0, code])?;
+    input.extend_from_slice(fields)?;
+    Ok([3, conn, 9, 0, 0, 0])
+}
+
 /// Puts the frame of what is asked behind the input, and the frame of its reply behind the output.
-fn put(exchange: &Exchange, input: &mut Vec<u8>, output: &mut Vec<u8>) -> Result<(), Fail> {
+pub fn put(exchange: &Exchange, input: &mut Vec<u8>, output: &mut Vec<u8>) -> Result<(), Fail> {
     let (ask, result, payload) = *exchange;
-    let head: &[u8] = match ask {
-        Ask::Call(code, fields) => {
-            input.extend_from_slice(&(size_of(fields) + 7).to_le_bytes())?;
-            input.extend_from_slice(&[3, 1, 9, 0, 0, 0, code])?;
-            input.extend_from_slice(fields)?;
-            &[3, 1, 9, 0, 0, 0]
-        }
+    let head = match ask {
+        Ask::Call(code, fields) => put_call(1, code, fields, input)?,
+        Ask::On(conn, code, fields) => put_call(conn, code, fields, input)?,
         Ask::Period => {
             input.extend_from_slice(b"\x05\0\0\0\x04\x01\0\0\0")?;
-            &[4, 0, 0, 0, 0, 0]
+            [4, 0, 0, 0, 0, 0]
         }
         Ask::Hangup => {
             input.extend_from_slice(b"\x02\0\0\0\x02\x01")?;
-            &[2, 1, 0, 0, 0, 0]
+            [2, 1, 0, 0, 0, 0]
         }
         Ask::Open => {
             input.extend_from_slice(OPEN)?;
-            &[1, 1, 0, 0, 0, 0]
+            [1, 1, 0, 0, 0, 0]
         }
     };
     output.extend_from_slice(&(size_of(payload) + 10).to_le_bytes())?;
-    output.extend_from_slice(head)?;
+    output.extend_from_slice(&head)?;
     output.extend_from_slice(&result.to_le_bytes())?;
     output.extend_from_slice(payload)?;
     Ok(())
 }
 
 /// Whether the row's replies are those that the program writes for it, and it ends with Done.
-fn holds(alloc: Global, row: &Row) -> Result<bool, Fail> {
+pub fn holds(alloc: Global, row: &Row) -> Result<bool, Fail> {
     let (first, exchanges) = *row;
     let mut input = joined(alloc, first)?;
     let mut output = Vec::new(alloc);

@@ -17,9 +17,13 @@ use Rattle.client_state.specs.Rows.{gate_rows, call_rows}
 use Rattle.ca_stage.specs.Stage.{Stream}
 use Rattle.ca_stage.specs.Moves.{stream_at}
 use Rattle.ca_stage.proofs.Lists.{chosen}
+use Rattle.session_manager.specs.declared.changes.Change.{Change}
+use Rattle.session_manager.specs.declared.changes.Change.TheVariants as change
+use Rattle.session_manager.specs.declared.session.Session.{Session}
+use Rattle.session_manager.specs.Sessions.{session_at}
+use Rattle.session_manager.specs.Rows.{found_rows}
 use Rattle.ca_machine.specs.declared.state.Client.{Client}
 use Rattle.ca_machine.specs.declared.state.Endpoint.{Endpoint}
-use Rattle.ca_machine.specs.declared.state.Session.{Session}
 use Rattle.ca_machine.specs.State.{State, client_of, endpoint_at}
 use Rattle.ca_machine.specs.Plan.{Answer, AreAnswers, Outcome, Plan, plain, with_memory, answered, if_found}
 use Rattle.ca_machine.specs.Plan.{unless_refused}
@@ -29,8 +33,10 @@ use Rattle.ca_machine.specs.SharedRows.{control_rows, data_call_rows, client_row
 use Rattle.ca_machine.specs.SharedRows.{stream_plan, no_rows, is_inactive, is_invalidated, invalidated_rows}
 use Rattle.ca_machine.specs.SharedRows.{endpoint_of, with_endpoint}
 use Rattle.ca_machine.specs.Clients.{open_plan, release_plan, hangup_plan, activate_plan}
-use Rattle.ca_machine.specs.Streams.{Opening, later_rows, opening_rows, joined, initialized, initialize_plan}
-use Rattle.ca_machine.specs.Streams.{session_found}
+use Rattle.ca_machine.specs.Streams.{Opening, later_rows, opening_rows, initialized, initialize_plan}
+use Rattle.ca_machine.specs.Streams.{get_stream_level_rows, set_stream_level_rows}
+use Rattle.ca_machine.specs.Sessions.{enum_sessions_plan, get_session_plan, session_payload, set_session_plan}
+use Rattle.ca_machine.specs.Sessions.{state_of_session, with_session}
 use Rattle.ca_machine.specs.Streams.{supported, format_payload, get_mix_format_plan}
 use Rattle.ca_machine.specs.Streams.{is_format_supported_plan, get_device_period_plan, is_malformed}
 use Rattle.ca_machine.specs.Streams.{start_rows, stop_rows, reset_rows, get_service_rows}
@@ -147,15 +153,10 @@ is_format_supported_complete st conn client share bytes =
     (row_fails front (is_none c, hr.E_HANDLE) (invalidated_rows st c stream ++ last) n)
     (row_fails (front ++ client_rows conn client st) (is_invalidated st c stream, hr.DEVICE_INVALIDATED) last n))
 
-joins : (st : State) (conn : ℕ) (client : Client) (x : Opening) (o : Option Session) →
-    IsGranted (joined st conn client x o).result
-joins st conn client x None = inl refl
-joins st conn client x (Some session) = inl refl
-
 initializes : (st : State) (conn : ℕ) (c : Option Client) (x : Opening) → is_none c ≡ false →
     IsGranted (initialized st conn c x).result
 initializes st conn None x there = absurd (true≢false there)
-initializes st conn (Some client) x there = joins st conn client x (session_found st conn (Some client) x)
+initializes st conn (Some client) x there = inl refl
 
 initialize_complete : (st : State) (conn client : ℕ) (x : Opening) → IsComplete st (initialize_plan st conn client x)
 initialize_complete st conn client x =
@@ -164,6 +165,21 @@ initialize_complete st conn client x =
     initializes st conn c x
     (row_fails (control_rows conn st ++ later_rows x) (is_none c, hr.E_HANDLE)
     (opening_rows st conn c (stream_at client st.stage) x) n))
+
+-- a call of a session: where there is none, a row has refused it
+told : (st : State) (front : List (Row Hr)) (payload : Session → List ℕ) (o : Option Session) →
+    first (front ++ found_rows o) ≡ None → IsGranted (with_session st o (λ s. answered st (payload s))).result
+told st front payload None n = absurd (row_holds front true hr.E_NOTFOUND [] refl n)
+told st front payload (Some s) n = inl refl
+
+get_session_complete : (st : State) (conn number : ℕ) → IsComplete st (get_session_plan st conn number)
+get_session_complete st conn number =
+    plain_complete st (get_session_plan st conn number)
+    (told st (control_rows conn st) (session_payload (state_of_session number st.stage.streams))
+    (session_at number st.sessions))
+
+set_complete : (st : State) (conn number : ℕ) (by : Change) → IsComplete st (set_session_plan st conn number by)
+set_complete st conn number by = plain_complete st (set_session_plan st conn number by) (λ n. inl refl)
 
 period_complete : (st : State) (o : Option Endpoint) → IsComplete st (period_of st o)
 period_complete st None =
@@ -197,9 +213,22 @@ call_complete st conn (call.Reset c) = stream_complete st conn c.0 reset_rows _ 
 call_complete st conn (call.GetService c service) =
     stream_complete st conn c.0 (get_service_rows service) _ (λ s. inl refl)
 call_complete st conn (call.GetPosition c) = stream_complete st conn c.0 no_rows _ (λ s. inl refl)
+call_complete st conn (call.GetStreamLevel c channel) =
+    stream_complete st conn c.0 (get_stream_level_rows channel) _ (λ s. inl refl)
+call_complete st conn (call.SetStreamLevel c channel level) =
+    stream_complete st conn c.0 (set_stream_level_rows channel level) _ (λ s. inl refl)
 call_complete st conn (call.GetBuffer c frames) = data_complete st conn c.0 (data_call.Get frames) _ (λ s. inl refl)
 call_complete st conn (call.ReleaseBuffer c frames flags bytes) =
     data_complete st conn c.0 (data_call.Release frames flags (length bytes.list)) _ (λ s. inl refl)
+call_complete st conn (call.EnumSessions e) = plain_complete st (enum_sessions_plan st conn e.0) (λ n. inl refl)
+call_complete st conn (call.GetSession s) = get_session_complete st conn s.0
+call_complete st conn (call.SetMaster s level context) = set_complete st conn s.0 (change.Level level)
+call_complete st conn (call.SetMute s mute context) = set_complete st conn s.0 (change.Mute mute)
+call_complete st conn (call.SetChannel s channel level context) =
+    set_complete st conn s.0 (change.Channel channel level)
+call_complete st conn (call.SetDisplayName s context text) = set_complete st conn s.0 (change.Display text)
+call_complete st conn (call.SetIconPath s context text) = set_complete st conn s.0 (change.Icon text)
+call_complete st conn (call.SetGrouping s grouping context) = set_complete st conn s.0 (change.Grouping grouping)
 call_complete st conn (call.Other code rest) =
     plain_complete st (unlisted_call_plan st conn)
     (λ n. absurd (row_holds (control_rows conn st) true hr.E_NOTIMPL [] refl n))

@@ -21,19 +21,28 @@ use Rattle.ca_stage.specs.Stage.{Stream, is_open_gate, is_open, padding}
 use Rattle.ca_stage.specs.Moves.{Move, added, opened, of_client, leased, released, started, stopped, reset, stream_at}
 use Rattle.ca_stage.specs.Order.{is_among}
 use Rattle.ca_stage.proofs.Lists.{chosen, all-append, all_found, found_passes}
+use Rattle.session_manager.specs.declared.changes.Change.{Change}
+use Rattle.session_manager.specs.declared.changes.Change.TheVariants as change
+use Rattle.session_manager.specs.declared.session.Session.{Session}
+use Rattle.session_manager.specs.Changes.{after as changed_by}
+use Rattle.session_manager.specs.declared.session.SessionKey.{SessionKey}
+use Rattle.session_manager.specs.Sessions.{SessionList, changed, joined, number_joined, session_at}
 use Rattle.ca_machine.specs.declared.state.Client.{Client}
 use Rattle.ca_machine.specs.declared.state.Endpoint.{Endpoint}
-use Rattle.ca_machine.specs.declared.state.Session.{Session}
 use Rattle.ca_machine.specs.State.{State, live_clients, is_client_of, client_of, is_endpoint, endpoint_at}
-use Rattle.ca_machine.specs.Plan.{Answer, AreAnswers, moved, granted, Plan, outcome_of}
+use Rattle.ca_machine.specs.State.{session_list, with_sessions}
+use Rattle.ca_machine.specs.Plan.{Answer, AreAnswers, answered, moved, granted, Plan, outcome_of}
 use Rattle.ca_machine.specs.Plan.{unless_row, asked_of}
 use Rattle.ca_machine.specs.SharedRows.{data_call_rows, client_rows, no_rows, endpoint_of}
 use Rattle.ca_machine.specs.Clients.{open_plan, is_client_on, without_connection, hangup_plan, activate_plan}
 use Rattle.ca_machine.specs.Clients.{release_plan, new_connection}
-use Rattle.ca_machine.specs.Streams.{format_payload, Opening, new_stream, with_session, opened_in, joined, initialized}
-use Rattle.ca_machine.specs.Streams.{initialize_plan, supported, session_found, get_mix_format_plan}
+use Rattle.ca_machine.specs.Streams.{format_payload, Opening, new_stream, endpoint_channels, is_kept, opened_in}
+use Rattle.ca_machine.specs.Streams.{initialize_plan, initialized, joined_by, session_key, supported}
+use Rattle.ca_machine.specs.Streams.{get_mix_format_plan, get_stream_level_rows, set_stream_level_rows}
+use Rattle.ca_machine.specs.Streams.{set_stream_level_plan}
 use Rattle.ca_machine.specs.Streams.{get_device_period_plan, is_format_supported_plan, get_service_rows, start_rows}
 use Rattle.ca_machine.specs.Streams.{stop_rows, reset_rows}
+use Rattle.ca_machine.specs.Sessions.{enum_sessions_plan, get_session_plan, set_session_plan, with_session}
 use Rattle.ca_machine.specs.Data.{side_of, seen_of, data_rows, frames_released, release_buffer_plan}
 use Rattle.ca_machine.specs.Devices.{new_endpoint, add_plan}
 use Rattle.ca_machine.specs.Periods.{mixing_of, period_of}
@@ -43,7 +52,7 @@ use Rattle.ca_machine.proofs.LiveClients.{found_is_live, found_number}
 use Rattle.ca_machine.proofs.PresentStage.{PresentLaws, stage_of}
 use Rattle.ca_machine.proofs.Playheads.{HasHead}
 use Rattle.ca_machine.proofs.StateInOrder.{IsInOrder, in_order_moved, in_order_made, in_order_others}
-use Rattle.ca_machine.proofs.StateInOrder.{in_order_endpoints, heads_added}
+use Rattle.ca_machine.proofs.StateInOrder.{in_order_endpoints, in_order_levels, heads_added}
 use Rattle.ca_machine.proofs.FramesHanded.{HandsNone, HandsOver, none_by, none_refused, released_is_handed}
 use Rattle.ca_machine.proofs.Outcomes.{
   Upholds,
@@ -151,20 +160,20 @@ module _ (laws : PresentLaws) (ms : List Move) (st : State) (h : IsInOrder ms st
       upholds_quiet laws ms st h e (opened_in new c x session) n (refl, tt) refl
       (in_order_moved laws ms (opened (new_stream c x session) ∷ []) new k (a, tt) tt)
 
-  upholds_joined : (conn : ℕ) (c : Client) (x : Opening) (o : Option Session) → HandsNone e →
-      is_among c.client.0 (live_clients st.clients) ≡ true → Upholds ms st e (joined st conn c x o)
-  upholds_joined conn c x (Some session) n a = upholds_opened st c x session.session.0 n h a
-  upholds_joined conn c x None n a =
-      upholds_opened (with_session st conn c x) c x (st.sessions_made + 1) n
-      (in_order_others ms st st.connections (with_session st conn c x).sessions (st.sessions_made + 1) h) a
+  upholds_joined : (c : Client) (x : Opening) (key : SessionKey) → HandsNone e →
+      is_among c.client.0 (live_clients st.clients) ≡ true → Upholds ms st e (joined_by st c x key)
+  upholds_joined c x key n a =
+      let l : SessionList =
+      joined key None (is_kept x.flags) (endpoint_channels st c) (session_list st) in
+      upholds_opened (with_sessions l st) c x (number_joined key (session_list st)) n
+      (in_order_others ms st st.connections l.list l.made h) a
 
   upholds_initialized : (conn client : ℕ) (o : Option Client) (x : Opening) → HandsNone e →
       client_of conn client st ≡ o → Upholds ms st e (initialized st conn o x)
   upholds_initialized conn client None x n k =
       upholds_refused laws ms st h e hr.E_HANDLE (none_by (stage_of ms) e hr.E_HANDLE n)
   upholds_initialized conn client (Some c) x n k =
-      upholds_joined conn c x (session_found st conn (Some c) x) n
-      (found_is_live (is_client_of conn client) st.clients c k)
+      upholds_joined c x (session_key st conn c x) n (found_is_live (is_client_of conn client) st.clients c k)
 
   upholds_initialize : (conn client : ℕ) (x : Opening) (given : List Answer) → HandsNone e →
       Upholds ms st e (outcome_of st (initialize_plan st conn client x) given)
@@ -172,6 +181,27 @@ module _ (laws : PresentLaws) (ms : List Move) (st : State) (h : IsInOrder ms st
       upholds_plan laws ms st h e (initialize_plan st conn client x) given n
       (λ r. upholds_memory laws ms st h e _ given n
       (upholds_initialized conn client (client_of conn client st) x n refl))
+
+  -- ---- sessions, and levels
+
+  upholds_set : (conn number : ℕ) (by : Change) (given : List Answer) → HandsNone e →
+      Upholds ms st e (outcome_of st (set_session_plan st conn number by) given)
+  upholds_set conn number by given n =
+      upholds_plan laws ms st h e (set_session_plan st conn number by) given n
+      (λ r. upholds_still laws ms st h e hr.S_OK [] _ (none_by (stage_of ms) e hr.S_OK n)
+      (in_order_others ms st st.connections (changed number (changed_by by) st.sessions) st.sessions_made h))
+
+  upholds_told : (o : Option Session) (payload : Session → List ℕ) → HandsNone e →
+      Upholds ms st e (with_session st o (λ s. answered st (payload s)))
+  upholds_told None payload n = upholds_refused laws ms st h e hr.E_NOTFOUND (none_by (stage_of ms) e hr.E_NOTFOUND n)
+  upholds_told (Some s) payload n = upholds_answered laws ms st h e (payload s) n
+
+  upholds_stream_level : (conn client channel level : ℕ) (given : List Answer) → HandsNone e →
+      Upholds ms st e (outcome_of st (set_stream_level_plan st conn client channel level) given)
+  upholds_stream_level conn client channel level given n =
+      upholds_stream laws ms st h e conn client (set_stream_level_rows channel level) _ given n
+      (λ s. upholds_still laws ms st h e hr.S_OK [] _ (none_by (stage_of ms) e hr.S_OK n)
+      (in_order_levels ms st conn client channel level h))
 
   -- ---- IsFormatSupported
 
@@ -302,11 +332,34 @@ module _ (laws : PresentLaws) (ms : List Move) (st : State) (h : IsInOrder ms st
       (λ s. upholds_answered laws ms st h e [] n)
   upholds_call conn (call.GetPosition c) given n =
       upholds_stream laws ms st h e conn c.0 no_rows _ given n (λ s. upholds_answered laws ms st h e _ n)
+  upholds_call conn (call.GetStreamLevel c channel) given n =
+      upholds_stream laws ms st h e conn c.0 (get_stream_level_rows channel) _ given n
+      (λ s. upholds_answered laws ms st h e _ n)
+  upholds_call conn (call.SetStreamLevel c channel level) given n =
+      upholds_stream_level conn c.0 channel level given n
   upholds_call conn (call.GetBuffer c frames) given n =
       upholds_data laws ms st h e conn c.0 (data_call.Get frames) _ given n
       (λ s. upholds_move laws ms st h e [] (of_client c.0 (leased frames)) n refl refl tt)
   upholds_call conn (call.ReleaseBuffer c frames flags bytes) given n =
       upholds_release_buffer conn c.0 frames flags bytes.list given n
+  upholds_call conn (call.EnumSessions d) given n =
+      upholds_plan laws ms st h e (enum_sessions_plan st conn d.0) given n
+      (λ r. upholds_answered laws ms st h e _ n)
+  upholds_call conn (call.GetSession s) given n =
+      upholds_plan laws ms st h e (get_session_plan st conn s.0) given n
+      (λ r. upholds_told (session_at s.0 st.sessions) _ n)
+  upholds_call conn (call.SetMaster s level context) given n =
+      upholds_set conn s.0 (change.Level level) given n
+  upholds_call conn (call.SetMute s mute context) given n =
+      upholds_set conn s.0 (change.Mute mute) given n
+  upholds_call conn (call.SetChannel s channel level context) given n =
+      upholds_set conn s.0 (change.Channel channel level) given n
+  upholds_call conn (call.SetDisplayName s context text) given n =
+      upholds_set conn s.0 (change.Display text) given n
+  upholds_call conn (call.SetIconPath s context text) given n =
+      upholds_set conn s.0 (change.Icon text) given n
+  upholds_call conn (call.SetGrouping s grouping context) given n =
+      upholds_set conn s.0 (change.Grouping grouping) given n
   upholds_call conn (call.Other code rest) given n =
       upholds_plan laws ms st h e (unlisted_call_plan st conn) given n
       (λ r. upholds_refused laws ms st h e hr.E_NOTIMPL (none_by (stage_of ms) e hr.E_NOTIMPL n))

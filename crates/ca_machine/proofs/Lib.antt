@@ -12,4 +12,5 @@ pub mod Complete
 pub mod Runs
 pub mod RunsHaveHeadline
 pub mod WorkedTurns
+mod WorkedSessions
 mod Worked

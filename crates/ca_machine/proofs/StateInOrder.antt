@@ -1,6 +1,7 @@
 -- What holds of every state of a run, after the moves that were made before it.
 use Rattle.std.proofs.Common.{◌≡◌, ℕ, ◌+◌, ◌≤◌, ◌||◌, ◌==◌, not, List, [], ◌∷◌, ◌++◌, filter, Bool, true, false}
 use Rattle.std.proofs.Common.{refl, sym, ap, ap₂, ◌∙◌, subst, append-nil, arith, eqb, eqb-true}
+use Rattle.std.proofs.Common.{if◌then◌else◌, slice_set}
 use Rattle.std.proofs.lemmas.Bool.Decides.{nat_tests}
 use Rattle.std.specs.List.{AllByRecursion}
 use Rattle.ca_base.specs.declared.ids.Reason.TheVariants.{Released}
@@ -13,13 +14,14 @@ use Rattle.ca_stage.specs.Present.{present, AreGone}
 use Rattle.ca_stage.proofs.Lists.{all-append, all-filter, all_weaker}
 use Rattle.ca_stage.proofs.Stages.{after_moves-append, woven-append}
 use Rattle.ca_stage.proofs.MapTallies.{tally-append}
+use Rattle.session_manager.specs.declared.session.Session.{Session}
 use Rattle.ca_machine.specs.declared.state.Client.{Client}
 use Rattle.ca_machine.specs.declared.state.Connection.{Connection}
 use Rattle.ca_machine.specs.declared.state.Endpoint.{Endpoint}
-use Rattle.ca_machine.specs.declared.state.Session.{Session}
-use Rattle.ca_machine.specs.State.{State, empty_state, live_clients}
+use Rattle.ca_machine.specs.State.{State, empty_state, is_client_of, live_clients}
 use Rattle.ca_machine.specs.Plan.{moved}
 use Rattle.ca_machine.specs.Clients.{closes, leaving, new_client}
+use Rattle.ca_machine.specs.Streams.{with_stream_level}
 use Rattle.ca_machine.specs.Periods.{after_period}
 use Rattle.ca_machine.proofs.LiveClients.{IsOfOthers, present_push, gone_push, present_left, gone_left}
 use Rattle.ca_machine.proofs.PresentStage.{PresentLaws, stage_of, OpenPresent, gone_after, AreWithin, within_after}
@@ -159,6 +161,44 @@ in_order_others ms st connections sessions made h = record {
   streams = h.streams;
   clients = h.clients;
 }
+
+-- a level of a client's stream is another
+numbers_stay : (conn client channel level : ℕ) (clients : List Client) →
+    live_clients (with_stream_level conn client channel level clients) ≡ live_clients clients
+numbers_stay conn client channel level [] = refl
+numbers_stay conn client channel level (c ∷ clients) =
+    ap₂ (λ n ns. n ∷ ns) (stays (is_client_of conn client c)) (numbers_stay conn client channel level clients)
+  where
+    stays : (b : Bool) →
+        (if b then record c { levels = slice_set c.levels channel level } else c).client.0 ≡ c.client.0
+    stays true = refl
+    stays false = refl
+
+made_stay : (k conn client channel level : ℕ) (clients : List Client) → AreMade k clients →
+    AreMade k (with_stream_level conn client channel level clients)
+made_stay k conn client channel level [] h = tt
+made_stay k conn client channel level (c ∷ clients) h =
+    (stays (is_client_of conn client c), made_stay k conn client channel level clients h.1)
+  where
+    stays : (b : Bool) →
+        (if b then record c { levels = slice_set c.levels channel level } else c).client.0 ≤ k
+    stays true = h.0
+    stays false = h.0
+
+pub in_order_levels : (ms : List Move) (st : State) (conn client channel level : ℕ) → IsInOrder ms st →
+    IsInOrder ms (record st { clients = with_stream_level conn client channel level st.clients })
+in_order_levels ms st conn client channel level h =
+    let same : live_clients st.clients ≡ live_clients (with_stream_level conn client channel level st.clients) =
+    sym (numbers_stay conn client channel level st.clients) in
+    record {
+      stands = h.stands ∙ ap (λ ns. present ns (stage_of ms)) same;
+      gone = subst (λ ns. AreGone ns (stage_of ms)) same h.gone;
+      tally = h.tally;
+      woven = h.woven;
+      heads = h.heads;
+      streams = h.streams;
+      clients = made_stay st.clients_made conn client channel level st.clients h.clients;
+    }
 
 -- the endpoints are others, which have playheads
 pub in_order_endpoints : (ms : List Move) (st : State) (endpoints : List Endpoint) (last : ℕ) → IsInOrder ms st →

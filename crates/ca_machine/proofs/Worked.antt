@@ -129,7 +129,7 @@ two_streams : two_clients.stage.streams ≡ player 2 2 ∷ player 3 2 ∷ []
 two_streams = refl
 
 -- the session stays until its last stream is released
-session_stays : map (λ s. s.session.0) (after two_clients (leaves 3 ∷ [])).sessions ≡ 2 ∷ []
+session_stays : map (λ s. s.no.0) (after two_clients (leaves 3 ∷ [])).sessions ≡ 2 ∷ []
 session_stays = refl
 
 session_goes : (after two_clients (leaves 3 ∷ leaves 2 ∷ [])).sessions ≡ []

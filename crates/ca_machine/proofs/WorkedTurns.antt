@@ -184,13 +184,24 @@ player client session = record {
   buffer_data = no_data;
 }
 
+-- levels that change nothing
+abbrev pub full : List ℕ
+full = 65536 ∷ 65536 ∷ 65536 ∷ 65536 ∷ []
+
 abbrev pub ready : State
 ready = record {
   stage = record { playheads = record { number = 1; next = 0 } ∷ []; streams = player 1 1 ∷ [] };
   tally = no_tally;
   connections = record { conn = record { 0 = 1 }; process = 10; name = name_of_player } ∷ [];
   clients =
-      record { client = record { 0 = 1 }; conn = record { 0 = 1 }; endpoint = record { 0 = 1 }; role = 0 } ∷ [];
+      record {
+        client = record { 0 = 1 };
+        conn = record { 0 = 1 };
+        endpoint = record { 0 = 1 };
+        role = 0;
+        levels = full;
+      }
+      ∷ [];
   endpoints =
       record {
         endpoint = record { 0 = 1 };
@@ -204,10 +215,22 @@ ready = record {
       ∷ [];
   sessions =
       record {
-        session = record { 0 = 1 };
-        endpoint = record { 0 = 1 };
-        process = 10;
-        guid = record { 0 = 0 };
+        no = record { 0 = 1 };
+        key = record {
+          endpoint = record { 0 = 1 };
+          process = 10;
+          guid = record { 0 = 0 };
+          name = name_of_player;
+        };
+        level = 65536;
+        mute = false;
+        channels = full;
+        count = 2;
+        persist = true;
+        display = [];
+        icon = [];
+        grouping = record { 0 = 0 };
+        optout = false;
       }
       ∷ [];
   last_endpoint = 1;

@@ -6,15 +6,15 @@ use Rattle.std.specs.Int.{w64, to_le_bytes}
 use Rattle.ca_base.specs.declared.codes.Hr.{Hr}
 use Rattle.ca_base.specs.declared.codes.TheConstants.Hr as hr
 use Rattle.ca_base.specs.declared.ids.Reason.TheVariants.{Released}
-use Rattle.ca_base.specs.declared.limits.TheConstants.{CLIENTS, CONNECTIONS, MAX_CONNECTION_NAME, MAX_COUNT}
+use Rattle.ca_base.specs.declared.limits.TheConstants.{CLIENTS, CONNECTIONS, MAX_CONNECTION_NAME, MAX_COUNT, MAX_LEVEL}
 use Rattle.ca_base.specs.declared.values.TheConstants.{ROLE_COMMUNICATIONS, ROLE_NONE}
 use Rattle.ca_base.specs.Rows.{Row}
 use Rattle.ca_stage.specs.Stage.{Stream}
 use Rattle.ca_stage.specs.Moves.{Move, of_client, closed}
 use Rattle.ca_stage.specs.Present.{present}
+use Rattle.session_manager.specs.declared.session.Session.{Session}
 use Rattle.ca_machine.specs.declared.state.Client.{Client}
 use Rattle.ca_machine.specs.declared.state.Connection.{Connection}
-use Rattle.ca_machine.specs.declared.state.Session.{Session}
 use Rattle.ca_machine.specs.State.{State, is_connection, is_connected, is_client_of, endpoint_at, live_clients}
 use Rattle.ca_machine.specs.Plan.{Outcome, Plan, plain, granted, moved}
 use Rattle.ca_machine.specs.SharedRows.{control_rows, client_rows, is_inactive}
@@ -30,14 +30,9 @@ abbrev pub is_name : List ℕ → Bool
 is_name bytes =
     nat_lt 0 (length bytes) && (nat_le (length bytes) MAX_CONNECTION_NAME && list_all is_name_byte bytes)
 
--- another connection is open
-abbrev pub has_other_connection : ℕ → State → Bool
-has_other_connection conn st = list_any (λ c. not (is_connection conn c)) st.connections
-
 abbrev pub open_rows : State → ℕ → ℕ → List ℕ → List (Row Hr)
 open_rows st conn process name =
-    (has_other_connection conn st, hr.E_NOTIMPL)
-    ∷ (
+    (
       not (nat_le 1 conn && nat_le conn CONNECTIONS) || (is_connected conn st || (process == 0 || not (is_name name))),
       hr.E_INVALIDARG,
     )
@@ -54,7 +49,7 @@ open_plan st conn process name = plain (open_rows st conn process name)
 
 -- a session that one of these streams belongs to
 abbrev pub is_used : List Stream → Session → Bool
-is_used streams session = list_any (λ s. s.session == session.session.0) streams
+is_used streams session = list_any (λ s. s.session == session.no.0) streams
 
 -- these clients alone are left: the streams of the others are gone, and so are the sessions without a stream
 abbrev pub with_clients : List Client → State → State
@@ -127,6 +122,7 @@ new_client client conn endpoint role = record {
   conn = record { 0 = conn };
   endpoint = record { 0 = endpoint };
   role = role;
+  levels = MAX_LEVEL ∷ MAX_LEVEL ∷ MAX_LEVEL ∷ MAX_LEVEL ∷ [];
 }
 
 abbrev pub activate_plan : State → ℕ → ℕ → ℕ → Plan

@@ -3,6 +3,7 @@ pub mod Plan
 pub mod SharedRows
 pub mod Clients
 pub mod Streams
+pub mod Sessions
 pub mod Data
 pub mod Devices
 pub mod Periods

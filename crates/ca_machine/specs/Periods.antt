@@ -1,16 +1,21 @@
 -- A period of an endpoint (this project's own).
 use Rattle.std.specs.Prelude.{ℕ, ◌+◌, ◌==◌, not, nat_lt, List, [], ◌∷◌, ◌++◌, length, map, Bool, true, false}
-use Rattle.std.specs.Prelude.{Option, Some, None, if◌then◌else◌}
+use Rattle.std.specs.Prelude.{Option, Some, None, if◌then◌else◌, slice_index}
+use Rattle.std.specs.List.{find}
+use Rattle.std.specs.Option.{option_map_or}
 use Rattle.std.specs.Int.{w32, to_le_bytes}
 use Rattle.ca_base.specs.declared.codes.Hr.{Hr}
 use Rattle.ca_base.specs.declared.codes.TheConstants.Hr as hr
-use Rattle.ca_base.specs.declared.limits.TheConstants.{MAX_COUNT, SHARED_PERIOD}
+use Rattle.ca_base.specs.declared.limits.TheConstants.{MAX_COUNT, MAX_LEVEL, SHARED_PERIOD}
 use Rattle.ca_base.specs.declared.values.TheConstants.{STATE_ACTIVE, STATE_NOTPRESENT}
 use Rattle.ca_base.specs.Rows.{Row}
 use Rattle.wave_format.specs.Format.{frames_of_time}
 use Rattle.volume_stack.specs.Scaling.{unit_gain}
-use Rattle.ca_stage.specs.Stage.{Stage}
-use Rattle.ca_stage.specs.Moves.{Mixing, after_moves, picks, sub_steps}
+use Rattle.volume_stack.specs.Gains.{gain_of_stream}
+use Rattle.session_manager.specs.declared.session.Session.{Session}
+use Rattle.session_manager.specs.Sessions.{session_at}
+use Rattle.ca_stage.specs.Stage.{Stage, Stream}
+use Rattle.ca_stage.specs.Moves.{Mixing, after_moves, picks, stream_at, sub_steps}
 use Rattle.ca_stage.specs.Mix.{sound_bytes}
 use Rattle.ca_stage.specs.Fates.{next_of}
 use Rattle.ca_machine.specs.declared.state.Endpoint.{Endpoint}
@@ -22,13 +27,38 @@ use Rattle.ca_machine.specs.Plan.Asked.{writing}
 abbrev pub period_frames : Endpoint → ℕ
 period_frames e = frames_of_time e.format.rate SHARED_PERIOD
 
+-- the session of a stream that is there
+abbrev pub session_joined : State → Option Stream → Option Session
+session_joined st None = None
+session_joined st (Some s) = session_at s.session st.sessions
+
+-- the levels of a live client's stream
+abbrev pub levels_of : ℕ → State → List ℕ
+levels_of client st = option_map_or (λ c. c.levels) (find (λ c. c.client.0 == client) st.clients) []
+
+-- the gain of a channel by the levels of its stream and of its session: 0 if there is none
+abbrev pub gain_in : List ℕ → Option Session → ℕ → ℕ
+gain_in levels None channel = 0
+gain_in levels (Some s) channel = gain_of_stream (record {
+  stream = slice_index levels channel;
+  session = slice_index s.channels channel;
+  master = s.level;
+  duck = MAX_LEVEL;
+  mute = s.mute;
+})
+
+-- the gain of a channel of a client's stream
+abbrev pub gain_of : State → ℕ → ℕ → ℕ
+gain_of st client channel =
+    gain_in (levels_of client st) (session_joined st (stream_at client st.stage)) channel
+
 -- what a period of an endpoint mixes by, in this state: its frames and channels, and all gains
 abbrev pub mixing_of : State → Endpoint → Mixing
 mixing_of st e = record {
   endpoint = e.endpoint.0;
   frames = period_frames e;
   channels = e.format.channels;
-  gain = λ client channel. unit_gain;
+  gain = gain_of st;
   endpoint_gain = λ channel. unit_gain;
 }
 

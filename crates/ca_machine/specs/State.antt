@@ -1,10 +1,11 @@
 -- The state of the one-thread machine (this project's own).
 use Rattle.std.specs.Prelude.{ℕ, ◌==◌, ◌&&◌, List, [], map, Bool, Option}
 use Rattle.std.specs.List.{find, list_any}
+use Rattle.session_manager.specs.declared.session.Session.{Session}
+use Rattle.session_manager.specs.Sessions.{SessionList}
 use Rattle.ca_machine.specs.declared.state.Connection.{Connection}
 use Rattle.ca_machine.specs.declared.state.Client.{Client}
 use Rattle.ca_machine.specs.declared.state.Endpoint.{Endpoint}
-use Rattle.ca_machine.specs.declared.state.Session.{Session}
 use Rattle.ca_stage.specs.Stage.{Stage, empty_stage}
 use Rattle.ca_stage.specs.Tally.{Tally, no_tally}
 
@@ -60,12 +61,12 @@ is_endpoint number e = e.endpoint.0 == number
 abbrev pub endpoint_at : ℕ → State → Option Endpoint
 endpoint_at number st = find (is_endpoint number) st.endpoints
 
--- the session of an endpoint, a process and a GUID, if it is there
-abbrev pub is_session : ℕ → ℕ → ℕ → Session → Bool
-is_session endpoint process guid s = s.endpoint.0 == endpoint && (s.process == process && s.guid.0 == guid)
+-- the sessions, and how many were ever made
+abbrev pub session_list : State → SessionList
+session_list st = record { list = st.sessions; made = st.sessions_made }
 
-abbrev pub session_of : ℕ → ℕ → ℕ → State → Option Session
-session_of endpoint process guid st = find (is_session endpoint process guid) st.sessions
+abbrev pub with_sessions : SessionList → State → State
+with_sessions sessions st = record st { sessions = sessions.list; sessions_made = sessions.made }
 
 -- the numbers of live clients
 abbrev pub live_clients : List Client → List ℕ

@@ -12,6 +12,7 @@ use Rattle.ca_model.specs.declared.event.Call.TheVariants as call
 use Rattle.ca_model.specs.declared.event.DeviceEvent.{DeviceEvent}
 use Rattle.ca_model.specs.declared.event.DeviceEvent.TheVariants as device
 use Rattle.ca_model.specs.declared.reply.Reply.{Reply}
+use Rattle.session_manager.specs.declared.changes.Change.TheVariants as change
 use Rattle.ca_stage.specs.Moves.{Move}
 use Rattle.ca_machine.specs.State.{State}
 use Rattle.ca_machine.specs.Plan.{Outcome, Plan, Answer, Asked, AreAnswers, plain, refused, asked_of, outcome_of}
@@ -30,6 +31,13 @@ use Rattle.ca_machine.specs.Streams.{
   reset_plan,
   get_service_plan,
   get_position_plan,
+  get_stream_level_plan,
+  set_stream_level_plan,
+}
+use Rattle.ca_machine.specs.Sessions.{
+  enum_sessions_plan,
+  get_session_plan,
+  set_session_plan,
 }
 use Rattle.ca_machine.specs.Data.{get_current_padding_plan, get_buffer_plan, release_buffer_plan}
 use Rattle.ca_machine.specs.Devices.{add_plan}
@@ -65,8 +73,19 @@ call_plan st conn (call.Stop c) = stop_plan st conn c.0
 call_plan st conn (call.Reset c) = reset_plan st conn c.0
 call_plan st conn (call.GetService c service) = get_service_plan st conn c.0 service
 call_plan st conn (call.GetPosition c) = get_position_plan st conn c.0
+call_plan st conn (call.GetStreamLevel c channel) = get_stream_level_plan st conn c.0 channel
+call_plan st conn (call.SetStreamLevel c channel level) = set_stream_level_plan st conn c.0 channel level
 call_plan st conn (call.GetBuffer c frames) = get_buffer_plan st conn c.0 frames
 call_plan st conn (call.ReleaseBuffer c frames flags bytes) = release_buffer_plan st conn c.0 frames flags bytes.list
+call_plan st conn (call.EnumSessions e) = enum_sessions_plan st conn e.0
+call_plan st conn (call.GetSession s) = get_session_plan st conn s.0
+call_plan st conn (call.SetMaster s level context) = set_session_plan st conn s.0 (change.Level level)
+call_plan st conn (call.SetMute s mute context) = set_session_plan st conn s.0 (change.Mute mute)
+call_plan st conn (call.SetChannel s channel level context) =
+    set_session_plan st conn s.0 (change.Channel channel level)
+call_plan st conn (call.SetDisplayName s context text) = set_session_plan st conn s.0 (change.Display text)
+call_plan st conn (call.SetIconPath s context text) = set_session_plan st conn s.0 (change.Icon text)
+call_plan st conn (call.SetGrouping s grouping context) = set_session_plan st conn s.0 (change.Grouping grouping)
 call_plan st conn (call.Other code rest) = unlisted_call_plan st conn
 
 abbrev pub device_plan : State → DeviceEvent → Plan

@@ -1,7 +1,8 @@
--- Control calls of a client's stream (IAudioClient, IAudioClock; the order of the rows, the sizes of buffers and the
--- default session's number are this project's own).
+-- Control calls of a client's stream (IAudioClient, IAudioClock, IAudioStreamVolume; the order of the rows and the sizes
+-- of buffers are this project's own).
 use Rattle.std.specs.Prelude.{ℕ, ◌+◌, ◌*◌, ◌/◌, ◌%◌, ◌==◌, ◌&&◌, ◌||◌, not, nat_lt, nat_le, min, max}
-use Rattle.std.specs.Prelude.{List, [], ◌∷◌, ◌++◌, length, Bool, true, false, Option, Some, None, is_some}
+use Rattle.std.specs.Prelude.{List, [], ◌∷◌, ◌++◌, length, map, slice_index, slice_set, Bool, true, false, Option}
+use Rattle.std.specs.Prelude.{Some, None, is_some}
 use Rattle.std.specs.Prelude.{if◌then◌else◌}
 use Rattle.std.specs.Option.{option_map_or}
 use Rattle.std.specs.Int.{w16, w32, w64, to_le_bytes}
@@ -10,11 +11,10 @@ use Rattle.ca_base.specs.declared.codes.TheConstants.Hr as hr
 use Rattle.ca_base.specs.declared.ids.Gate.TheVariants as gate
 use Rattle.ca_base.specs.declared.ids.StreamKind.TheVariants as kind
 use Rattle.ca_base.specs.declared.limits.TheConstants.{
-  MAX_COUNT,
+  MAX_LEVEL,
   MAX_SHARED_BUFFER_SECONDS,
   MAX_TIME,
   MIN_EXCLUSIVE_PERIOD,
-  SESSIONS,
   SHARED_PERIOD,
 }
 use Rattle.ca_base.specs.declared.values.TheConstants.{SHARE_EXCLUSIVE}
@@ -23,10 +23,20 @@ use Rattle.wave_format.specs.declared.format.Format.{Format}
 use Rattle.wave_format.specs.Format.{fault_rows, spelled, spelling, frames_of_time}
 use Rattle.ca_stage.specs.Stage.{Stream, padding, no_data, is_render}
 use Rattle.ca_stage.specs.Moves.{of_client, opened, started, stopped, reset, stream_at}
+use Rattle.session_manager.specs.declared.session.SessionKey.{SessionKey}
+use Rattle.session_manager.specs.Sessions.{joined, number_joined}
+use Rattle.session_manager.specs.Rows.{join_rows}
 use Rattle.ca_machine.specs.declared.state.Client.{Client}
 use Rattle.ca_machine.specs.declared.state.Endpoint.{Endpoint}
-use Rattle.ca_machine.specs.declared.state.Session.{Session}
-use Rattle.ca_machine.specs.State.{State, connection_at, client_of, session_of}
+use Rattle.ca_machine.specs.State.{
+  State,
+  client_of,
+  connection_at,
+  endpoint_at,
+  is_client_of,
+  session_list,
+  with_sessions,
+}
 use Rattle.ca_machine.specs.Plan.{Outcome, Plan, plain, with_memory, answered, granted, refused}
 use Rattle.ca_machine.specs.SharedRows.{
   control_rows,
@@ -66,9 +76,17 @@ format_payload format = to_le_bytes w16 (length (spelling format)) ++ spelling f
 
 -- ---- Initialize
 
--- CROSSPROCESS, LOOPBACK, EVENTCALLBACK and NOPERSIST, bits 16 to 19, come with later parts of the service
+-- AUDCLNT_STREAMFLAGS: CROSSPROCESS, LOOPBACK, EVENTCALLBACK and NOPERSIST are bits 16 to 19. A session is shared by
+-- processes, and the level of a session that it makes isn't kept.
+abbrev pub is_cross_process : ℕ → Bool
+is_cross_process flags = not (flags / 65536 % 2 == 0)
+
+abbrev pub is_kept : ℕ → Bool
+is_kept flags = flags / 524288 % 2 == 0
+
+-- LOOPBACK and EVENTCALLBACK come with later parts of the service
 abbrev pub has_later_flag : ℕ → Bool
-has_later_flag flags = not (flags / 65536 % 16 == 0)
+has_later_flag flags = not (flags / 131072 % 4 == 0)
 
 -- flags other than those four
 abbrev pub has_other_flag : ℕ → Bool
@@ -115,23 +133,33 @@ new_stream client x session = record {
   buffer_data = no_data;
 }
 
--- the process of a connection
+-- the process and the name of a connection
 abbrev pub process_of : ℕ → State → ℕ
 process_of conn st = option_map_or (λ c. c.process) (connection_at conn st) 0
 
--- the session that a client's stream joins, if it is there
-abbrev pub session_found : State → ℕ → Option Client → Opening → Option Session
-session_found st conn None x = None
-session_found st conn (Some client) x = session_of client.endpoint.0 (process_of conn st) x.session st
+abbrev pub name_of : ℕ → State → List ℕ
+name_of conn st = option_map_or (λ c. c.name) (connection_at conn st) []
 
--- it would be a new one, and a test holds
-abbrev pub if_new : Option Session → Bool → Bool
-if_new None test = test
-if_new (Some session) test = false
+-- what names the session that a client's stream joins: with CROSSPROCESS it has process 0 and the name `*`
+abbrev pub session_key : State → ℕ → Client → Opening → SessionKey
+session_key st conn client x =
+    if is_cross_process x.flags
+    then record { endpoint = client.endpoint; process = 0; guid = record { 0 = x.session }; name = 42 ∷ [] }
+    else record {
+      endpoint = client.endpoint;
+      process = process_of conn st;
+      guid = record { 0 = x.session };
+      name = name_of conn st;
+    }
+
+-- the rows of a session that would be new
+abbrev pub joining_rows : State → ℕ → Option Client → Opening → List (Row Hr)
+joining_rows st conn None x = []
+joining_rows st conn (Some client) x = join_rows (session_key st conn client x) (session_list st)
 
 -- values that come with later parts of the service
 abbrev pub later_rows : Opening → List (Row Hr)
-later_rows x = (x.share == SHARE_EXCLUSIVE || (has_later_flag x.flags || not (x.session == 0)), hr.E_NOTIMPL) ∷ []
+later_rows x = (x.share == SHARE_EXCLUSIVE || has_later_flag x.flags, hr.E_NOTIMPL) ∷ []
 
 -- the rows over the client that was found, and its stream
 abbrev pub opening_rows : State → ℕ → Option Client → Option Stream → Opening → List (Row Hr)
@@ -145,45 +173,32 @@ opening_rows st conn client stream x =
     )
     ∷ (is_malformed x.format, hr.E_INVALIDARG)
     ∷ (is_faulty x.format || has_no_match (endpoint_of st client) x.format, hr.UNSUPPORTED_FORMAT)
-    ∷ (if_new (session_found st conn client x) (nat_le SESSIONS (length st.sessions)), hr.SESSIONS_FULL)
-    ∷ (if_new (session_found st conn client x) (nat_le MAX_COUNT st.sessions_made), hr.WORN)
-    ∷ []
+    ∷ joining_rows st conn client x
 
 abbrev pub initialize_rows : State → ℕ → ℕ → Opening → List (Row Hr)
 initialize_rows st conn client x =
     control_rows conn st ++ later_rows x ++ client_rows conn client st
     ++ opening_rows st conn (client_of conn client st) (stream_at client st.stage) x
 
--- a session of an endpoint, a process and a GUID
-abbrev pub new_session : ℕ → ℕ → ℕ → ℕ → Session
-new_session session endpoint process guid = record {
-  session = record { 0 = session };
-  endpoint = record { 0 = endpoint };
-  process = process;
-  guid = record { 0 = guid };
-}
-
--- a new session is made
-abbrev pub with_session : State → ℕ → Client → Opening → State
-with_session st conn client x = record st {
-  sessions = st.sessions
-      ++ new_session (st.sessions_made + 1) client.endpoint.0 (process_of conn st) x.session ∷ [];
-  sessions_made = st.sessions_made + 1;
-}
-
--- a stream is opened in a session
+-- a stream is opened in a session, which is answered
 abbrev pub opened_in : State → Client → Opening → ℕ → Outcome
 opened_in st client x session =
     granted (to_le_bytes w64 session) (opened (new_stream client x session) ∷ []) st
 
--- it joins the session that was found, or a new one
-abbrev pub joined : State → ℕ → Client → Opening → Option Session → Outcome
-joined st conn client x (Some session) = opened_in st client x session.session.0
-joined st conn client x None = opened_in (with_session st conn client x) client x (st.sessions_made + 1)
+-- the channels of a client's endpoint
+abbrev pub endpoint_channels : State → Client → ℕ
+endpoint_channels st client = option_map_or (λ e. e.format.channels) (endpoint_at client.endpoint.0 st) 0
+
+-- the stream joins its session, which is a new one if there is none
+abbrev pub joined_by : State → Client → Opening → SessionKey → Outcome
+joined_by st client x key =
+    opened_in
+    (with_sessions (joined key None (is_kept x.flags) (endpoint_channels st client) (session_list st)) st)
+    client x (number_joined key (session_list st))
 
 abbrev pub initialized : State → ℕ → Option Client → Opening → Outcome
 initialized st conn None x = refused st hr.E_HANDLE
-initialized st conn (Some client) x = joined st conn client x (session_found st conn (Some client) x)
+initialized st conn (Some client) x = joined_by st client x (session_key st conn client x)
 
 abbrev pub initialize_plan : State → ℕ → ℕ → Opening → Plan
 initialize_plan st conn client x =
@@ -279,3 +294,36 @@ reset_rows stream =
 abbrev pub reset_plan : State → ℕ → ℕ → Plan
 reset_plan st conn client =
     stream_plan st conn client reset_rows (λ s. granted [] (of_client client reset ∷ []) st)
+
+-- ---- levels of a stream's channels
+
+-- a stream has no channel of this number
+abbrev pub lacks_channel : ℕ → Option Stream → Bool
+lacks_channel channel stream = if_stream (λ s. nat_le s.channels channel) stream
+
+abbrev pub get_stream_level_rows : ℕ → Option Stream → List (Row Hr)
+get_stream_level_rows channel stream = (lacks_channel channel stream, hr.E_INVALIDARG) ∷ []
+
+-- the level of a channel of a client's stream
+abbrev pub stream_level : ℕ → ℕ → ℕ → State → ℕ
+stream_level conn client channel st = option_map_or (λ c. slice_index c.levels channel) (client_of conn client st) 0
+
+abbrev pub get_stream_level_plan : State → ℕ → ℕ → ℕ → Plan
+get_stream_level_plan st conn client channel =
+    stream_plan st conn client (get_stream_level_rows channel)
+    (λ s. answered st (to_le_bytes w32 (stream_level conn client channel st)))
+
+abbrev pub set_stream_level_rows : ℕ → ℕ → Option Stream → List (Row Hr)
+set_stream_level_rows channel level stream =
+    (lacks_channel channel stream || nat_lt MAX_LEVEL level, hr.E_INVALIDARG) ∷ []
+
+-- clients after the level of a channel of this one was set
+abbrev pub with_stream_level : ℕ → ℕ → ℕ → ℕ → List Client → List Client
+with_stream_level conn client channel level clients = map
+    (λ c. if is_client_of conn client c then record c { levels = slice_set c.levels channel level } else c)
+    clients
+
+abbrev pub set_stream_level_plan : State → ℕ → ℕ → ℕ → ℕ → Plan
+set_stream_level_plan st conn client channel level =
+    stream_plan st conn client (set_stream_level_rows channel level)
+    (λ s. granted [] [] (record st { clients = with_stream_level conn client channel level st.clients }))

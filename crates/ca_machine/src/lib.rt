@@ -4,4 +4,4 @@
 pub mod headline;
 mod state;
 
-pub use state::{Client, Connection, Endpoint, Session};
+pub use state::{Client, Connection, Endpoint};

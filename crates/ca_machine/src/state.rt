@@ -1,7 +1,6 @@
-//! What the service keeps of connections, clients, endpoints and sessions. The definitions and the code have the same
-//! records.
+//! What the service keeps of connections, clients and endpoints. The definitions and the code have the same records.
 
-use ca_base::{ClientNo, ConnNo, EndpointNo, Flow, Guid, SessionNo, Text};
+use ca_base::{ClientNo, ConnNo, EndpointNo, Flow, Text};
 use wave_format::Format;
 
 /// An open connection: its process, and the name that it gave.
@@ -20,6 +19,8 @@ pub struct Client {
     pub endpoint: EndpointNo,
     /// ERole: 0, 1 or 2, or 255 for none.
     pub role: u8,
+    /// The level of each channel of its stream, from 0 to 65536 (IAudioStreamVolume).
+    pub levels: [u32; 4],
 }
 
 /// An endpoint that is there (IMMDevice).
@@ -34,13 +35,4 @@ pub struct Endpoint {
     /// Whether streams may use the endpoint exclusively, and whether such a stream displaces others.
     pub allows_exclusive: bool,
     pub exclusive_first: bool,
-}
-
-/// A session that has a stream which isn't released (IAudioSessionControl2).
-#[derive(Clone, Copy)]
-pub struct Session {
-    pub session: SessionNo,
-    pub endpoint: EndpointNo,
-    pub process: u32,
-    pub guid: Guid,
 }

@@ -78,12 +78,64 @@ asked_of_service = refl
 asked_of_position : called 15 (call.GetPosition (record { 0 = 258 })) (28 ∷ client)
 asked_of_position = refl
 
+asked_of_level : called 19 (call.GetStreamLevel (record { 0 = 258 }) 1) (29 ∷ client ++ 1 ∷ 0 ∷ 0 ∷ 0 ∷ [])
+asked_of_level = refl
+
+-- channel 1 at full level, 65536
+set_level :
+    called 23 (call.SetStreamLevel (record { 0 = 258 }) 1 65536) (30 ∷ client ++ 1 ∷ 0 ∷ 0 ∷ 0 ∷ 0 ∷ 0 ∷ 1 ∷ 0 ∷ [])
+set_level = refl
+
 leased : called 19 (call.GetBuffer (record { 0 = 258 }) 480) (32 ∷ client ++ 224 ∷ 1 ∷ 0 ∷ 0 ∷ [])
 leased = refl
 
 released : called 25 (call.ReleaseBuffer (record { 0 = 258 }) 1 2 (record { list = 8 ∷ 9 ∷ []; capacity = 5 }))
     (33 ∷ client ++ 1 ∷ 0 ∷ 0 ∷ 0 ∷ 2 ∷ 0 ∷ 0 ∷ 0 ∷ 8 ∷ 9 ∷ [])
 released = refl
+
+asked_of_sessions : called 11 (call.EnumSessions (record { 0 = 3 })) (48 ∷ 3 ∷ 0 ∷ 0 ∷ 0 ∷ [])
+asked_of_sessions = refl
+
+-- a session's number, 1027, and an event context, 513
+abbrev session : List ℕ
+session = 3 ∷ 4 ∷ replicate 6 0
+
+abbrev context : List ℕ
+context = replicate 14 0 ++ 2 ∷ 1 ∷ []
+
+asked_of_session : called 15 (call.GetSession (record { 0 = 1027 })) (49 ∷ session)
+asked_of_session = refl
+
+set_master :
+    called 35 (call.SetMaster (record { 0 = 1027 }) 65536 (record { 0 = 513 }))
+    (50 ∷ session ++ 0 ∷ 0 ∷ 1 ∷ 0 ∷ context)
+set_master = refl
+
+set_mute :
+    called 32 (call.SetMute (record { 0 = 1027 }) 1 (record { 0 = 513 })) (51 ∷ session ++ 1 ∷ context)
+set_mute = refl
+
+set_channel :
+    called 39 (call.SetChannel (record { 0 = 1027 }) 1 65536 (record { 0 = 513 }))
+    (52 ∷ session ++ 1 ∷ 0 ∷ 0 ∷ 0 ∷ 0 ∷ 0 ∷ 1 ∷ 0 ∷ context)
+set_channel = refl
+
+-- texts of two bytes
+set_display_name :
+    called 35 (call.SetDisplayName (record { 0 = 1027 }) (record { 0 = 513 }) (112 ∷ 108 ∷ []))
+    (53 ∷ session ++ context ++ 2 ∷ 0 ∷ 112 ∷ 108 ∷ [])
+set_display_name = refl
+
+set_icon_path :
+    called 35 (call.SetIconPath (record { 0 = 1027 }) (record { 0 = 513 }) (112 ∷ 108 ∷ []))
+    (54 ∷ session ++ context ++ 2 ∷ 0 ∷ 112 ∷ 108 ∷ [])
+set_icon_path = refl
+
+-- the grouping, 3, is before the event context
+set_grouping :
+    called 47 (call.SetGrouping (record { 0 = 1027 }) (record { 0 = 3 }) (record { 0 = 513 }))
+    (55 ∷ session ++ replicate 15 0 ++ 3 ∷ context)
+set_grouping = refl
 
 -- a code that isn't listed
 other : called 9 (call.Other 200 (record { list = 7 ∷ 7 ∷ []; capacity = 2 })) (200 ∷ 7 ∷ 7 ∷ [])

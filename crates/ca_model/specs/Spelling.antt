@@ -48,8 +48,18 @@ calls =
     ∷ (25, eight_bytes ∷ [])
     ∷ (27, eight_bytes ∷ four_bytes ∷ [])
     ∷ (28, eight_bytes ∷ [])
+    ∷ (29, eight_bytes ∷ four_bytes ∷ [])
+    ∷ (30, eight_bytes ∷ four_bytes ∷ four_bytes ∷ [])
     ∷ (32, eight_bytes ∷ four_bytes ∷ [])
     ∷ (33, eight_bytes ∷ four_bytes ∷ four_bytes ∷ rest ∷ [])
+    ∷ (48, four_bytes ∷ [])
+    ∷ (49, eight_bytes ∷ [])
+    ∷ (50, eight_bytes ∷ four_bytes ∷ guid ∷ [])
+    ∷ (51, eight_bytes ∷ byte ∷ guid ∷ [])
+    ∷ (52, eight_bytes ∷ four_bytes ∷ four_bytes ∷ guid ∷ [])
+    ∷ (53, eight_bytes ∷ guid ∷ text ∷ [])
+    ∷ (54, eight_bytes ∷ guid ∷ text ∷ [])
+    ∷ (55, eight_bytes ∷ guid ∷ guid ∷ [])
     ∷ []
 
 -- the device events that are listed
@@ -81,8 +91,18 @@ call_code (call.Stop c) = 24
 call_code (call.Reset c) = 25
 call_code (call.GetService c service) = 27
 call_code (call.GetPosition c) = 28
+call_code (call.GetStreamLevel c channel) = 29
+call_code (call.SetStreamLevel c channel level) = 30
 call_code (call.GetBuffer c n) = 32
 call_code (call.ReleaseBuffer c n flags buffer) = 33
+call_code (call.EnumSessions e) = 48
+call_code (call.GetSession s) = 49
+call_code (call.SetMaster s level context) = 50
+call_code (call.SetMute s mute context) = 51
+call_code (call.SetChannel s channel level context) = 52
+call_code (call.SetDisplayName s context name) = 53
+call_code (call.SetIconPath s context path) = 54
+call_code (call.SetGrouping s grouping context) = 55
 call_code (call.Other code tail) = code
 
 abbrev pub call_fields : Call → List Field
@@ -101,8 +121,19 @@ call_fields (call.Stop c) = number c.0 ∷ []
 call_fields (call.Reset c) = number c.0 ∷ []
 call_fields (call.GetService c service) = number c.0 ∷ number service ∷ []
 call_fields (call.GetPosition c) = number c.0 ∷ []
+call_fields (call.GetStreamLevel c channel) = number c.0 ∷ number channel ∷ []
+call_fields (call.SetStreamLevel c channel level) = number c.0 ∷ number channel ∷ number level ∷ []
 call_fields (call.GetBuffer c n) = number c.0 ∷ number n ∷ []
 call_fields (call.ReleaseBuffer c n flags buffer) = number c.0 ∷ number n ∷ number flags ∷ bytes buffer.list ∷ []
+call_fields (call.EnumSessions e) = number e.0 ∷ []
+call_fields (call.GetSession s) = number s.0 ∷ []
+call_fields (call.SetMaster s level context) = number s.0 ∷ number level ∷ number context.0 ∷ []
+call_fields (call.SetMute s mute context) = number s.0 ∷ number mute ∷ number context.0 ∷ []
+call_fields (call.SetChannel s channel level context) =
+    number s.0 ∷ number channel ∷ number level ∷ number context.0 ∷ []
+call_fields (call.SetDisplayName s context name) = number s.0 ∷ number context.0 ∷ bytes name ∷ []
+call_fields (call.SetIconPath s context path) = number s.0 ∷ number context.0 ∷ bytes path ∷ []
+call_fields (call.SetGrouping s grouping context) = number s.0 ∷ number grouping.0 ∷ number context.0 ∷ []
 call_fields (call.Other code tail) = bytes tail.list ∷ []
 
 abbrev pub device_code : DeviceEvent → ℕ

@@ -1,6 +1,6 @@
 //! Events: what the service is asked, and what happens to devices.
 
-use ca_base::{Bytes, ClientNo, ConnNo, EndpointNo, Guid, Text};
+use ca_base::{Bytes, ClientNo, ConnNo, EndpointNo, Guid, SessionNo, Text};
 
 /// One event of the service.
 #[derive(Drop)]
@@ -86,6 +86,17 @@ pub enum Call {
     GetPosition {
         client: ClientNo,
     },
+    /// 29: IAudioStreamVolume::GetChannelVolume.
+    GetStreamLevel {
+        client: ClientNo,
+        channel: u32,
+    },
+    /// 30: IAudioStreamVolume::SetChannelVolume. The level is 0 to 65536.
+    SetStreamLevel {
+        client: ClientNo,
+        channel: u32,
+        level: u32,
+    },
     /// 32: IAudioRenderClient::GetBuffer, of so many frames.
     GetBuffer {
         client: ClientNo,
@@ -97,6 +108,51 @@ pub enum Call {
         frames: u32,
         flags: u32,
         bytes: Bytes,
+    },
+    /// 48: IAudioSessionEnumerator, the sessions of an endpoint.
+    EnumSessions {
+        endpoint: EndpointNo,
+    },
+    /// 49: IAudioSessionControl2, a session's data.
+    GetSession {
+        session: SessionNo,
+    },
+    /// 50: ISimpleAudioVolume::SetMasterVolume, with its event context. The level is 0 to 65536.
+    SetMaster {
+        session: SessionNo,
+        level: u32,
+        context: Guid,
+    },
+    /// 51: ISimpleAudioVolume::SetMute, with its event context.
+    SetMute {
+        session: SessionNo,
+        mute: u8,
+        context: Guid,
+    },
+    /// 52: IChannelAudioVolume::SetChannelVolume, with its event context. The level is 0 to 65536.
+    SetChannel {
+        session: SessionNo,
+        channel: u32,
+        level: u32,
+        context: Guid,
+    },
+    /// 53: IAudioSessionControl::SetDisplayName, with its event context.
+    SetDisplayName {
+        session: SessionNo,
+        context: Guid,
+        text: Text,
+    },
+    /// 54: IAudioSessionControl::SetIconPath, with its event context.
+    SetIconPath {
+        session: SessionNo,
+        context: Guid,
+        text: Text,
+    },
+    /// 55: IAudioSessionControl::SetGroupingParam, with its event context.
+    SetGrouping {
+        session: SessionNo,
+        grouping: Guid,
+        context: Guid,
     },
     /// A code that isn't listed.
     Other {

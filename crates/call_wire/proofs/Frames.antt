@@ -3,7 +3,7 @@ use Rattle.std.proofs.Common.{◌≡◌, ℕ, ◌+◌, ◌^◌, ◌<◌, ◌≤�
 use Rattle.std.proofs.Common.{subst, ◌∙◌, append_assoc, arith}
 use Rattle.std.specs.Int.{w32, to_le_bytes}
 use Rattle.std.proofs.lemmas.List.{take_at, take-append-drop, length-append, length-take, length-drop}
-use Rattle.ca_base.specs.declared.limits.TheConstants.{LENGTH_SIZE}
+use Rattle.ca_base.specs.declared.limits.TheConstants.{LENGTH_SIZE, LONGEST_BODY}
 use Rattle.ca_model.specs.declared.event.Event.{Event}
 use Rattle.ca_model.specs.declared.event.Event.TheVariants as event
 use Rattle.ca_model.specs.Spelling.{fields, body, frame, IsEvent, CodeIsOwn, stated_length, IsIncomplete, Begins}
@@ -74,6 +74,20 @@ none_read bs (some, valid, long) nothing = record { whole = not_incomplete; none
     no_event e b =
         let t = front_of e bs b in
         apart (fields e) (sym nothing ∙ ap read_body t.has_body ∙ body_again e b.spelled.fit)
+
+-- a length that no frame states
+pub never_valid : (bs : List ℕ) → LENGTH_SIZE ≤ length bs
+    → (0 < stated_length bs → stated_length bs ≤ LONGEST_BODY → ⊥) → IsMalformed bs
+never_valid bs long invalid = record { whole = not_incomplete; none = no_event }
+  where
+    not_incomplete : IsIncomplete bs → ⊥
+    not_incomplete (no_length less) = omega arith
+    not_incomplete (no_body some valid less) = invalid some valid
+
+    no_event : NoEvent bs
+    no_event e b =
+        let stated = (front_of e bs b).stated in
+        invalid (omega (arith, stated, body_some e)) (omega (arith, stated, b.spelled.within))
 
 -- ---- an event that was read
 

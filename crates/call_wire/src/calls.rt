@@ -2,13 +2,17 @@
 
 ghost use Rattle.std.specs.Prelude.{◌≡◌, [], ◌∷◌, Some, None};
 ghost use Rattle.ca_model.specs.Fields.Kind.{eight_bytes};
-ghost use Rattle.ca_model.specs.Fields.Field.{number};
+ghost use Rattle.ca_model.specs.Fields.Field.{number as number_field};
 ghost use Rattle.ca_model.specs.Spelling.{call_code, call_fields, calls, listed};
 ghost use Rattle.call_wire.specs.Readers.{CallIsOwn, GivesCall, MayGiveCall};
 
 use crate::fault::{Fault, NoField};
 use crate::fields::{expect_end, take_format, take_guid, take_u8, take_u32, take_u64};
-use ca_base::{Bytes, ClientNo, EndpointNo};
+use crate::sessions::{
+    read_enum_sessions, read_set_channel, read_set_grouping, read_set_master, read_set_mute,
+    read_text_call,
+};
+use ca_base::{Bytes, ClientNo, EndpointNo, SessionNo};
 use ca_model::Call;
 use std::alloc::Global;
 
@@ -21,9 +25,17 @@ pub fn read_call(alloc: Global, code: u8, input: &[u8]) -> Result<Call, Fault>
         16 => read_initialize(alloc, input),
         20 => read_is_format_supported(alloc, input),
         27 => Ok(read_get_service(input)?),
-        6 | 17 | 18 | 19 | 21 | 22 | 23 | 24 | 25 | 28 => Ok(read_client_call(code, input)?),
+        6 | 17 | 18 | 19 | 21 | 22 | 23 | 24 | 25 | 28 | 49 => Ok(read_number_call(code, input)?),
+        29 => Ok(read_get_stream_level(input)?),
+        30 => Ok(read_set_stream_level(input)?),
         32 => Ok(read_get_buffer(input)?),
         33 => read_release_buffer(alloc, input),
+        48 => Ok(read_enum_sessions(input)?),
+        50 => Ok(read_set_master(input)?),
+        51 => Ok(read_set_mute(input)?),
+        52 => Ok(read_set_channel(input)?),
+        53 | 54 => Ok(read_text_call(code, input)?),
+        55 => Ok(read_set_grouping(input)?),
         _ => read_other_call(alloc, code, input),
     }
 }
@@ -60,23 +72,24 @@ fn read_initialize(alloc: Global, input: &[u8]) -> Result<Call, Fault>
     })
 }
 
-/// A call that has a client alone, by its code.
-fn read_client_call(code: u8, input: &[u8]) -> Result<Call, NoField>
+/// A call that has one number alone, a client's or a session's, by its code.
+fn read_number_call(code: u8, input: &[u8]) -> Result<Call, NoField>
     requires { listed code calls ≡ Some (eight_bytes ∷ []) }
     ensures { GivesCall code result input.now }
 {
-    let (client, rest) = take_u64(input)?;
+    let (number, rest) = take_u64(input)?;
     expect_end(rest)?;
-    Ok(client_call(code, ClientNo(client)))
+    Ok(number_call(code, number))
 }
 
-/// The call of this code and this client, which has nothing else.
-fn client_call(code: u8, client: ClientNo) -> Call
+/// The call of this code and this number, which has nothing else.
+fn number_call(code: u8, number: u64) -> Call
     requires { listed code calls ≡ Some (eight_bytes ∷ []) }
     ensures code { call_code result ≡ code }
     ensures own { CallIsOwn result }
-    ensures client { call_fields result ≡ number client.0 ∷ [] }
+    ensures fields { call_fields result ≡ number_field number ∷ [] }
 {
+    let client = ClientNo(number);
     match code {
         6 => Call::Release { client },
         17 => Call::GetBufferSize { client },
@@ -87,8 +100,11 @@ fn client_call(code: u8, client: ClientNo) -> Call
         23 => Call::Start { client },
         24 => Call::Stop { client },
         25 => Call::Reset { client },
-        // 28, the only one that is left
-        _ => Call::GetPosition { client },
+        28 => Call::GetPosition { client },
+        // 49, the only one that is left
+        _ => Call::GetSession {
+            session: SessionNo(number),
+        },
     }
 }
 
@@ -114,6 +130,30 @@ fn read_get_service(input: &[u8]) -> Result<Call, NoField>
     expect_end(rest)?;
     let client = ClientNo(client);
     Ok(Call::GetService { client, service })
+}
+
+fn read_get_stream_level(input: &[u8]) -> Result<Call, NoField>
+    ensures { GivesCall 29 result input.now }
+{
+    let (client, rest) = take_u64(input)?;
+    let (channel, rest) = take_u32(rest)?;
+    expect_end(rest)?;
+    let client = ClientNo(client);
+    Ok(Call::GetStreamLevel { client, channel })
+}
+
+fn read_set_stream_level(input: &[u8]) -> Result<Call, NoField>
+    ensures { GivesCall 30 result input.now }
+{
+    let (client, rest) = take_u64(input)?;
+    let (channel, rest) = take_u32(rest)?;
+    let (level, rest) = take_u32(rest)?;
+    expect_end(rest)?;
+    Ok(Call::SetStreamLevel {
+        client: ClientNo(client),
+        channel,
+        level,
+    })
 }
 
 fn read_get_buffer(input: &[u8]) -> Result<Call, NoField>

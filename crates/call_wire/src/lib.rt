@@ -9,6 +9,7 @@ mod fault;
 mod fields;
 pub mod laws;
 mod reading;
+mod sessions;
 mod writing;
 
 pub use ca_model::{Call, DeviceEvent, Event, Reply};

@@ -4,13 +4,13 @@ use Rattle.std.proofs.Common.{Option, Some, None, refl, sym, ap, ◌∙◌, ◌=
 use Rattle.std.proofs.Common.{subst, length-append}
 use Rattle.std.proofs.lemmas.Bool.{leb-false}
 use Rattle.std.proofs.lemmas.Option.{get_or_from_slice_get}
-use Rattle.std.proofs.lemmas.List.Elements.{All-head, All-push, All-tail, All-weaker}
+use Rattle.std.proofs.lemmas.List.Elements.{All-from_recursion, All-head, All-push, All-tail, All-weaker}
 use Rattle.std.specs.Vec.{vec_capacity}
 use Rattle.std.specs.List.{All, find, position}
 use Rattle.std.specs.Int.{w64, to_le_bytes}
 use Rattle.ca_base.specs.declared.codes.Hr.{Hr}
 use Rattle.ca_base.specs.declared.codes.TheConstants.Hr as hr
-use Rattle.ca_base.specs.declared.limits.TheConstants.{CLIENTS, MAX_COUNT}
+use Rattle.ca_base.specs.declared.limits.TheConstants.{CLIENTS, MAX_COUNT, MAX_LEVEL}
 use Rattle.ca_base.specs.declared.values.TheConstants.{STATE_ACTIVE}
 use Rattle.ca_base.specs.Rows.{Row, first}
 use Rattle.ca_stage.specs.Stage.{BufferData, no_data}
@@ -25,7 +25,7 @@ use Rattle.ca_machine.specs.Clients.{activate_plan, activate_rows, is_role, new_
 use Rattle.buffer_ring.specs.declared.step.EndState.{EndState}
 use Rattle.period_engine.specs.declared.entry.StreamEntry.{StreamEntry}
 use Rattle.service_board.specs.Board.{state_of}
-use Rattle.service_board.specs.InOrder.{Belongs, InOrder, IsBook}
+use Rattle.service_board.specs.InOrder.{Belongs, HasLevels, InOrder, IsBook}
 use Rattle.service_board.specs.Lookups.{Says}
 use Rattle.service_board.specs.declared.board.Board.{Board}
 use Rattle.service_board.specs.declared.book.Book.{Book}
@@ -139,6 +139,12 @@ module _ {D E : Type 0} (b : Board D E) (conn endpoint role : ℕ)
 
 -- ---- the order of the tables
 
+-- the levels of a new client are the highest
+pub full_levels : (client conn endpoint role : ℕ) → HasLevels (new_client client conn endpoint role)
+full_levels client conn endpoint role =
+    All-from_recursion (λ level. level ≤ MAX_LEVEL) (new_client client conn endpoint role).levels
+    (omega arith, (omega arith, (omega arith, (omega arith, tt))))
+
 rises_push : (low n : ℕ) (clients : List Client) (c : Client) → RisesFrom low (live_clients clients) → low ≤ n →
     All (λ x. x.client.0 < n) clients → c.client.0 ≡ n → RisesFrom low (live_clients (clients ++ c ∷ []))
 rises_push low n [] c h lt all e = (omega arith, tt)
@@ -155,7 +161,7 @@ still_found test xs x more e =
 -- a client that is pushed keeps the board in order
 module _ {D E : Type 0} (state : E → EndState) (b : Board D E) (order : InOrder state b) (book : Book) (c : Client)
     (pushed : book.clients.items ≡ b.book.clients.items ++ c ∷ []) (number : c.client.0 ≡ b.book.clients_made + 1)
-    (capacity : vec_capacity b.book.clients ≤ vec_capacity book.clients)
+    (capacity : vec_capacity b.book.clients ≤ vec_capacity book.clients) (leveled : HasLevels c)
     (free : (length b.book.clients.items < CLIENTS) × (b.book.clients_made < MAX_COUNT)) where
   -- the book with the clients of the new one
   abbrev pub with_client : Book
@@ -171,8 +177,9 @@ module _ {D E : Type 0} (state : E → EndState) (b : Board D E) (order : InOrde
           connections = old.rooms.connections;
           clients = let r = old.rooms.clients in omega arith;
           endpoints = old.rooms.endpoints;
-          sessions = old.rooms.sessions;
         };
+        apart = old.apart;
+        opens = old.opens;
         clients =
             subst (λ cs. RisesFrom 0 (live_clients cs)) (sym pushed)
             (rises_push 0 (b.book.clients_made + 1) b.book.clients.items c old.clients (omega arith)
@@ -187,7 +194,8 @@ module _ {D E : Type 0} (state : E → EndState) (b : Board D E) (order : InOrde
         clients_made = omega arith;
         endpoints = old.endpoints;
         added = old.added;
-        sessions_made = old.sessions_made;
+        levels =
+            subst (All HasLevels) (sym pushed) (All-push HasLevels b.book.clients.items c old.levels leveled);
       }
 
   still_belongs : (e : StreamEntry E) → Belongs b.book b.seats.items e → Belongs with_client b.seats.items e
@@ -200,6 +208,7 @@ module _ {D E : Type 0} (state : E → EndState) (b : Board D E) (order : InOrde
     endpoint = h.endpoint;
     there = h.there;
     channels = h.channels;
+    within = h.within;
     gains = h.gains;
     renders = h.renders;
     position = h.position;

@@ -199,6 +199,7 @@ module _ {D E : Type 0} (state : E → EndState) (b : Board D E) (order : InOrde
                 ap (find (is_endpoint e.endpoint.0)) pushed
                 ∙ still_found (is_endpoint e.endpoint.0) b.book.endpoints.items h.endpoint endpoint h.there;
             channels = h.channels;
+            within = h.within;
             gains = h.gains;
             renders = h.renders;
             position = omega arith;
@@ -213,8 +214,9 @@ module _ {D E : Type 0} (state : E → EndState) (b : Board D E) (order : InOrde
               connections = old.rooms.connections;
               clients = old.rooms.clients;
               endpoints = let room = old.rooms.endpoints in omega arith;
-              sessions = old.rooms.sessions;
             };
+            apart = old.apart;
+            opens = old.opens;
             clients = old.clients;
             few_clients = old.few_clients;
             made = old.made;
@@ -232,7 +234,7 @@ module _ {D E : Type 0} (state : E → EndState) (b : Board D E) (order : InOrde
                 (All-push (λ (e : Endpoint). e.endpoint.0 ≤ number) b.book.endpoints.items endpoint
                 (All-weaker (λ (e : Endpoint). e.endpoint.0 ≤ b.book.last_endpoint) (λ e. e.endpoint.0 ≤ number)
                 (λ e le. omega arith) b.book.endpoints.items old.added) (omega (arith, number_is)));
-            sessions_made = old.sessions_made;
+            levels = old.levels;
           }
 
       pub added_order : vec_capacity new.book.endpoints ≡ vec_capacity b.book.endpoints →

@@ -1,46 +1,128 @@
--- Open: what its rows say of the connections, and what it grants.
-use Rattle.std.proofs.Common.{◌≡◌, ℕ, ◌<◌, List, [], ◌∷◌, ◌++◌, length, not, Bool, true, false, None, refl, ap}
-use Rattle.std.proofs.Common.{◌||◌, ◌&&◌, ◌==◌, nat_le, arith, ◌∙◌}
-use Rattle.std.proofs.lemmas.Bool.{true≢false, or_parts}
-use Rattle.std.specs.List.{list_any}
+-- Open: what its row says of the connections, and what it grants.
+use Rattle.std.proofs.Common.{◌≡◌, ℕ, ◌+◌, ◌<◌, ◌≤◌, List, [], ◌∷◌, ◌++◌, length, map, not, Bool, true, false, None}
+use Rattle.std.proofs.Common.{refl, sym, ap, ◌||◌, ◌&&◌, ◌==◌, nat_eq, nat_lt, nat_le, arith, ◌∙◌, subst, eqb-true}
+use Rattle.std.specs.List.{All, AllByRecursion, IsDistinct, list_all, list_any}
+use Rattle.std.specs.Vec.{vec_capacity}
+use Rattle.std.proofs.lemmas.Bool.{and_parts, leb-true, not-false, or_from, or_parts}
+use Rattle.std.proofs.lemmas.Bool.Decides.{nat_tests}
+use Rattle.std.proofs.lemmas.Cmp.{nat_eq_equiv}
+use Rattle.std.proofs.lemmas.List.{length-map, map-append}
+use Rattle.std.proofs.lemmas.List.Elements.{All-push, All-weaker, recursion_from_All}
+use Rattle.std.proofs.lemmas.Map.Keys.{IsDistinct-cons, IsDistinct-push}
+use Rattle.std.proofs.lemmas.Map.Steps.{length-le_from_distinct_below}
 use Rattle.ca_base.specs.declared.codes.TheConstants.Hr as hr
-use Rattle.ca_base.specs.declared.limits.TheConstants.{CONNECTIONS}
+use Rattle.ca_base.specs.declared.limits.TheConstants.{CONNECTIONS, MAX_CONNECTION_NAME}
+use Rattle.buffer_ring.specs.declared.step.EndState.{EndState}
 use Rattle.ca_stage.specs.Stage.{BufferData, no_data}
 use Rattle.ca_stage.specs.Tally.{Tally, no_tally}
 use Rattle.ca_machine.specs.declared.state.Connection.{Connection}
 use Rattle.ca_machine.specs.State.{is_connection}
-use Rattle.ca_machine.specs.Clients.{has_other_connection, is_name, new_connection, open_plan, open_rows}
+use Rattle.ca_machine.specs.Clients.{is_name, is_name_byte, new_connection, open_plan, open_rows}
+use Rattle.period_engine.specs.declared.entry.StreamEntry.{StreamEntry}
 use Rattle.service_board.specs.Board.{state_of}
+use Rattle.service_board.specs.InOrder.{Belongs, InOrder, IsBook, IsOpen}
 use Rattle.service_board.specs.Lookups.{Says}
 use Rattle.service_board.specs.declared.board.Board.{Board}
 use Rattle.service_board.specs.declared.book.Book.{Book}
 use Rattle.service_board.proofs.Granting.{Grants}
 use Rattle.service_board.proofs.Rows.{row_fails}
 
--- neither this connection nor another one is open
-none_open : (conn : ℕ) (cs : List Connection) → list_any (λ c. not (is_connection conn c)) cs ≡ false →
-    list_any (is_connection conn) cs ≡ false → length cs ≡ 0
-none_open conn [] other own = refl
-none_open conn (c ∷ cs) other own =
-    by (is_connection conn c) (or_parts (not (is_connection conn c)) _ other).0
-    (or_parts (is_connection conn c) (list_any (is_connection conn) cs) own).0
+-- ---- the numbers of connections
+
+abbrev numbers : List Connection → List ℕ
+numbers cs = map (λ c. c.conn.0) cs
+
+-- a number that no connection has is apart from theirs
+none_equal : (n : ℕ) (cs : List Connection) → list_any (is_connection n) cs ≡ false →
+    AllByRecursion (λ m. nat_eq n m ≡ false) (numbers cs)
+none_equal n [] h = tt
+none_equal n (c ∷ cs) h =
+    let parts = or_parts (c.conn.0 == n) (list_any (is_connection n) cs) h in
+    let other = parts.0 in
+    (grind (arith, nat_tests), none_equal n cs parts.1)
+
+all_other : (n : ℕ) (ms : List ℕ) → AllByRecursion (λ m. nat_eq n m ≡ false) ms → list_any (nat_eq n) ms ≡ false
+all_other n [] h = refl
+all_other n (m ∷ ms) h = or_from (nat_eq n m) (list_any (nat_eq n) ms) h.0 (all_other n ms h.1)
+
+-- the numbers of open connections are from 1 to their limit
+numbers_within : (cs : List Connection) → AllByRecursion IsOpen cs →
+    AllByRecursion (λ m. (nat_eq 0 m ≡ false) × (m < CONNECTIONS + 1)) (numbers cs)
+numbers_within [] h = tt
+numbers_within (c ∷ cs) h =
+    let least = h.0.least in
+    let most = h.0.most in
+    ((grind (arith, nat_tests), omega arith), numbers_within cs h.1)
+
+any_below : (q n : ℕ) (ms : List ℕ) → AllByRecursion (λ m. (nat_eq 0 m ≡ false) × (m < n)) ms →
+    list_any (nat_eq q) ms ≡ true → q < n
+any_below q n [] h e = cc
+any_below q n (m ∷ ms) h e = by (nat_eq q m) refl e (any_below q n ms h.1)
   where
-    by : (b : Bool) → not b ≡ false → b ≡ false → length (c ∷ cs) ≡ 0
-    by true e f = absurd (true≢false f)
-    by false e f = absurd (true≢false e)
+    by : (b : Bool) → nat_eq q m ≡ b → (b || list_any (nat_eq q) ms) ≡ true →
+        (list_any (nat_eq q) ms ≡ true → q < n) → q < n
+    by true t f later = let same = eqb-true q m t in let below = h.0.1 in omega arith
+    by false t f later = later f
+
+all_first : {A : Type 0} (P Q : A → Type 0) (xs : List A) → AllByRecursion (λ x. P x × Q x) xs → AllByRecursion P xs
+all_first P Q [] h = tt
+all_first P Q (x ∷ xs) h = (h.0.0, all_first P Q xs h.1)
+
+-- with a free number there is one connection less than there may be
+fewer_than_all : (n : ℕ) (cs : List Connection) → 1 ≤ n → n ≤ CONNECTIONS →
+    list_any (is_connection n) cs ≡ false → IsDistinct nat_eq (numbers cs) → AllByRecursion IsOpen cs →
+    length cs < CONNECTIONS
+fewer_than_all n cs least most free apart opens =
+    let within : AllByRecursion (λ m. (nat_eq 0 m ≡ false) × (m < CONNECTIONS + 1)) (n ∷ numbers cs) =
+    ((grind (arith, nat_tests), omega arith), numbers_within cs opens) in
+    let distinct = IsDistinct-cons nat_eq 0 (n ∷ numbers cs)
+    (all_first (λ m. nat_eq 0 m ≡ false) (λ m. m < CONNECTIONS + 1) (n ∷ numbers cs) within)
+    (IsDistinct-cons nat_eq n (numbers cs) (none_equal n cs free) apart) in
+    let few = length-le_from_distinct_below (0 ∷ n ∷ numbers cs) (CONNECTIONS + 1) distinct
+    (below_limit within) in
+    let same : length (numbers cs) ≡ length cs = length-map cs (λ (c : Connection). c.conn.0) in
+    omega arith
+  where
+    below_limit : AllByRecursion (λ m. (nat_eq 0 m ≡ false) × (m < CONNECTIONS + 1)) (n ∷ numbers cs) → (q : ℕ) →
+        list_any (nat_eq q) (0 ∷ n ∷ numbers cs) ≡ true → q < CONNECTIONS + 1
+    below_limit within q e = by (nat_eq q 0) refl e
+      where
+        by : (b : Bool) → nat_eq q 0 ≡ b → (b || list_any (nat_eq q) (n ∷ numbers cs)) ≡ true → q < CONNECTIONS + 1
+        by true t f = let same = eqb-true q 0 t in omega arith
+        by false t f = any_below q (CONNECTIONS + 1) (n ∷ numbers cs) within f
+
+-- ---- a connection is opened
 
 module _ {D E : Type 0} (b : Board D E) (conn process : ℕ) (name : List ℕ)
     (says : Says b (λ st. open_rows st conn process name) None) where
-  pub free_to_open : length b.book.connections.items < CONNECTIONS
-  free_to_open =
-      let st = state_of (λ client. no_data) no_tally b in
-      let first = row_fails (has_other_connection conn st) hr.E_NOTIMPL _ (says (λ client. no_data) no_tally) in
-      let second = row_fails _ hr.E_INVALIDARG None first.1 in
-      let own =
-      or_parts (list_any (is_connection conn) b.book.connections.items) (process == 0 || not (is_name name))
-      (or_parts (not (nat_le 1 conn && nat_le conn CONNECTIONS)) _ second.0).1 in
-      let none : length b.book.connections.items ≡ 0 = none_open conn b.book.connections.items first.0 own.0 in
-      omega arith
+  -- its number may be, no open one has it, and its name fits
+  record Free : Type 0 where
+    pub opens : IsOpen (new_connection conn process name)
+    pub free : list_any (is_connection conn) b.book.connections.items ≡ false
+
+  free_conn : Free
+  free_conn =
+      let range = not (nat_le 1 conn && nat_le conn CONNECTIONS) in
+      let row = (row_fails _ hr.E_INVALIDARG None (says (λ client. no_data) no_tally)).0 in
+      let ranged = or_parts range _ row in
+      let own = or_parts (list_any (is_connection conn) b.book.connections.items) _ ranged.1 in
+      let named = or_parts (process == 0) (not (is_name name)) own.1 in
+      let numbered = and_parts (nat_le 1 conn) (nat_le conn CONNECTIONS) (not-false _ ranged.0) in
+      let fits = and_parts (nat_lt 0 (length name)) _ (not-false (is_name name) named.1) in
+      let short = and_parts (nat_le (length name) MAX_CONNECTION_NAME) (list_all is_name_byte name) fits.1 in
+      record {
+        opens = record {
+          least = leb-true 1 conn numbered.0;
+          most = leb-true conn CONNECTIONS numbered.1;
+          name = leb-true (length name) MAX_CONNECTION_NAME short.0;
+        };
+        free = own.0;
+      }
+
+  pub free_to_open : IsBook b.book → length b.book.connections.items < CONNECTIONS
+  free_to_open is =
+      fewer_than_all conn b.book.connections.items free_conn.opens.least free_conn.opens.most free_conn.free is.apart
+      (recursion_from_All IsOpen b.book.connections.items is.opens)
 
   pub open_grants : (book : Book) →
       book ≡ record (b.book) { connections = book.connections } →
@@ -58,3 +140,68 @@ module _ {D E : Type 0} (b : Board D E) (conn process : ℕ) (name : List ℕ)
         ap (λ bk. state_of datas tally (record b { book = bk })) same
         ∙ ap (λ cs. record (state_of datas tally b) { connections = cs }) pushed;
   }
+
+  -- ---- the order of the tables
+
+  module _ (state : E → EndState) (order : InOrder state b) (book : Book)
+      (pushed : book.connections.items ≡ b.book.connections.items ++ new_connection conn process name ∷ [])
+      (capacity : vec_capacity b.book.connections ≤ vec_capacity book.connections) where
+    -- the book with the connections of the new one
+    abbrev with_connection : Book
+    with_connection = record (b.book) { connections = book.connections }
+
+    opened_book : IsBook with_connection
+    opened_book =
+        let old = order.book in
+        record {
+          rooms = record {
+            connections = let r = old.rooms.connections in omega arith;
+            clients = old.rooms.clients;
+            endpoints = old.rooms.endpoints;
+          };
+          apart =
+              subst (λ cs. IsDistinct nat_eq (numbers cs)) (sym pushed)
+              (subst (IsDistinct nat_eq)
+              (sym (map-append (λ (c : Connection). c.conn.0) b.book.connections.items
+              (new_connection conn process name ∷ [])))
+              (IsDistinct-push nat_eq_equiv (numbers b.book.connections.items) conn old.apart
+              (all_other conn (numbers b.book.connections.items)
+              (none_equal conn b.book.connections.items free_conn.free))));
+          opens =
+              subst (All IsOpen) (sym pushed)
+              (All-push IsOpen b.book.connections.items (new_connection conn process name) old.opens free_conn.opens);
+          clients = old.clients;
+          few_clients = old.few_clients;
+          made = old.made;
+          clients_made = old.clients_made;
+          endpoints = old.endpoints;
+          added = old.added;
+          levels = old.levels;
+        }
+
+    still_belongs : (e : StreamEntry E) → Belongs b.book b.seats.items e → Belongs with_connection b.seats.items e
+    still_belongs e h = record {
+      client = h.client;
+      live = h.live;
+      on = h.on;
+      endpoint = h.endpoint;
+      there = h.there;
+      channels = h.channels;
+      within = h.within;
+      gains = h.gains;
+      renders = h.renders;
+      position = h.position;
+    }
+
+    pub open_order : InOrder state (record b { book = with_connection })
+    open_order = record {
+      order = order.order;
+      rested = order.rested;
+      belong =
+          All-weaker (Belongs b.book b.seats.items) (Belongs with_connection b.seats.items) still_belongs b.entries.items
+          order.belong;
+      seats = order.seats;
+      book = opened_book;
+      room = order.room;
+      seat_room = order.seat_room;
+    }

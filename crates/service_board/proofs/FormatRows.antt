@@ -23,14 +23,14 @@ use Rattle.ca_machine.specs.Streams.{
   matches,
   supported,
 }
-use Rattle.service_board.specs.Answers.{code_of, payload_bytes, payload_code, payload_of}
+use Rattle.reply_payload.specs.Answers.{code_of, payload_bytes, payload_code, payload_of}
 use Rattle.service_board.specs.Board.{state_of}
 use Rattle.service_board.specs.Does.{AnyData, Does}
 use Rattle.service_board.specs.Formats.{TellsSupport, support_payload}
 use Rattle.service_board.specs.Lookups.{FindsEndpoint, Says}
 use Rattle.service_board.specs.declared.board.Board.{Board}
-use Rattle.service_board.specs.declared.payload.Payload.{Payload}
-use Rattle.service_board.specs.declared.payload.Payload.TheVariants as payload
+use Rattle.reply_payload.specs.declared.payload.Payload.{Payload}
+use Rattle.reply_payload.specs.declared.payload.Payload.TheVariants as payload
 use Rattle.service_board.proofs.Doing.{refused_does}
 use Rattle.service_board.proofs.EndpointCalls.{endpoint_read, endpoint_there, plain_tells, told}
 use Rattle.service_board.proofs.LookingUp.{says_front, says_later}

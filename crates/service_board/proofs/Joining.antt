@@ -1,22 +1,18 @@
--- The session that a new stream joins, and the format that it has.
-use Rattle.std.proofs.Common.{◌≡◌, ℕ, ◌≤◌, ◌<◌, List, length, Bool, true, false, not, Option, Some, None, Ok, Err}
+-- What is found at a place, and the format that a new stream has.
+use Rattle.std.proofs.Common.{◌≡◌, ℕ, ◌≤◌, ◌<◌, List, Bool, true, false, not, Option, Some, None, Ok, Err}
 use Rattle.std.proofs.Common.{◌==◌, eqb-true}
-use Rattle.std.proofs.Common.{refl, sym, ap, ◌∙◌, subst, arith, get_or, is_some, ◌||◌, if◌then◌else◌, nat_le, ◌∷◌, []}
+use Rattle.std.proofs.Common.{refl, sym, ap, ◌∙◌, arith, get_or, is_some, ◌||◌, if◌then◌else◌, nat_le, ◌∷◌, []}
 use Rattle.std.specs.Option.{option_map_or}
 use Rattle.std.specs.List.{find, position}
 use Rattle.std.proofs.lemmas.Bool.{and_parts, le-leb, lt-leb}
 use Rattle.std.proofs.lemmas.Option.{get_or_from_slice_get}
 use Rattle.ca_base.specs.declared.codes.Hr.{Hr}
 use Rattle.ca_base.specs.declared.codes.TheConstants.Hr as hr
-use Rattle.ca_base.specs.declared.limits.TheConstants.{MAX_COUNT, SESSIONS}
 use Rattle.ca_base.specs.Rows.{first}
 use Rattle.wave_format.specs.declared.format.Format.{Format}
 use Rattle.wave_format.specs.declared.format.FormatFault.{FormatFault}
 use Rattle.wave_format.specs.Format.{unless_fault}
-use Rattle.ca_machine.specs.declared.state.Session.{Session}
 use Rattle.ca_machine.specs.Streams.{matches}
-use Rattle.service_board.specs.Openings.{HasSession, session_rows}
-use Rattle.service_board.specs.declared.book.Book.{Book}
 use Rattle.service_board.proofs.Finding.{found_at}
 
 -- what is read at the first place that passes is what is found
@@ -25,43 +21,6 @@ pub found_there : {X : Type 0} (test : X → Bool) (xs : List X) (at : ℕ) (x :
 found_there test xs at x there read =
     let f = found_at test xs at there in
     f.found ∙ ap (λ y. Some y) (sym (get_or_from_slice_get xs at f.member x f.here) ∙ sym read)
-
--- ---- sessions
-
-pub session_says : (found : Option Session) (book : Book) (s : Session) → found ≡ Some s →
-    first (session_rows found book) ≡ None
-session_says found book s e = ap (λ o. first (session_rows o book)) e
-
-pub session_there : (found : Option Session) (book : Book) (s : Session) → found ≡ Some s →
-    HasSession found book (Some s.session)
-session_there found book s e = subst (λ o. HasSession o book (Some s.session)) (sym e) refl
-
-pub no_room : (found : Option Session) (book : Book) → found ≡ None → SESSIONS ≤ length book.sessions.items →
-    first (session_rows found book) ≡ Some hr.SESSIONS_FULL
-no_room found book e full =
-    ap (λ o. first (session_rows o book)) e
-    ∙ ap (λ b. if b then Some hr.SESSIONS_FULL
-    else (if nat_le MAX_COUNT book.sessions_made then Some hr.WORN else None))
-    (le-leb SESSIONS (length book.sessions.items) full)
-
--- a new session may be made: or the count of all ends
-module _ (found : Option Session) (book : Book) (e : found ≡ None) (room : length book.sessions.items < SESSIONS) where
-  later_row : first (session_rows found book) ≡ (if nat_le MAX_COUNT book.sessions_made then Some hr.WORN else None)
-  later_row =
-      ap (λ o. first (session_rows o book)) e
-      ∙ ap (λ b. if b then Some hr.SESSIONS_FULL
-      else (if nat_le MAX_COUNT book.sessions_made then Some hr.WORN else None))
-      (lt-leb SESSIONS (length book.sessions.items) room)
-
-  pub worn : MAX_COUNT ≤ book.sessions_made → first (session_rows found book) ≡ Some hr.WORN
-  worn end = later_row ∙ ap (λ b. if b then Some hr.WORN else None) (le-leb MAX_COUNT book.sessions_made end)
-
-  pub room_says : book.sessions_made < MAX_COUNT → first (session_rows found book) ≡ None
-  room_says count =
-      later_row ∙ ap (λ b. if b then Some hr.WORN else None) (lt-leb MAX_COUNT book.sessions_made count)
-
-  pub room_there : book.sessions_made < MAX_COUNT → HasSession found book None
-  room_there count = subst (λ o. HasSession o book None) (sym e) (refl, room, count)
 
 -- ---- formats
 

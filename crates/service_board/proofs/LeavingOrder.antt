@@ -1,18 +1,21 @@
 -- A board that clients left is in order.
-use Rattle.std.proofs.Common.{◌≡◌, ◌≤◌, ◌==◌, not, List, [], ◌∷◌, length, map, filter, Bool, true, false, cond, refl}
+use Rattle.std.proofs.Common.{◌≡◌, ℕ, ◌≤◌, ◌==◌, nat_eq, not, List, [], ◌∷◌, length, map, filter, Bool, true, false, cond, refl}
 use Rattle.std.proofs.Common.{sym, ap, ◌∙◌, subst, find, arith}
 use Rattle.std.proofs.lemmas.List.Elements.{All-filter, All-from_recursion, recursion_from_All}
-use Rattle.std.specs.List.{All, AllByRecursion}
+use Rattle.std.specs.List.{All, AllByRecursion, IsDistinct}
 use Rattle.std.specs.Vec.{vec_capacity}
+use Rattle.std.proofs.lemmas.Bool.{true≢false}
+use Rattle.std.proofs.lemmas.Map.Keys.{IsDistinct-cons, IsDistinct-head, IsDistinct-tail}
 use Rattle.ca_base.specs.declared.limits.TheConstants.{CLIENTS}
 use Rattle.buffer_ring.specs.declared.step.EndState.{EndState}
 use Rattle.buffer_ring.specs.declared.step.Step.{Step}
 use Rattle.ca_stage.specs.Order.{RisesFrom}
 use Rattle.ca_machine.specs.declared.state.Client.{Client}
+use Rattle.ca_machine.specs.declared.state.Connection.{Connection}
 use Rattle.ca_machine.specs.State.{live_clients}
 use Rattle.period_engine.specs.declared.entry.StreamEntry.{StreamEntry}
 use Rattle.period_engine.specs.Entries.{IsRested}
-use Rattle.service_board.specs.InOrder.{Belongs, InOrder, IsBook}
+use Rattle.service_board.specs.InOrder.{Belongs, HasLevels, InOrder, IsBook, IsOpen}
 use Rattle.service_board.specs.Leaving.{Forgets, is_live, is_of_live}
 use Rattle.service_board.specs.declared.board.Board.{Board}
 use Rattle.service_board.specs.declared.book.Book.{Book}
@@ -30,17 +33,46 @@ passing p P Q h (x ∷ xs) all = by (p x) (h x all.0) (passing p P Q h xs all.1)
     by true here rest = (here refl, rest)
     by false here rest = rest
 
+-- the connections that are left have numbers apart
+pub apart_left : (p : Connection → Bool) (cs : List Connection) → IsDistinct nat_eq (map (λ c. c.conn.0) cs) →
+    IsDistinct nat_eq (map (λ c. c.conn.0) (filter p cs))
+apart_left p [] h = h
+apart_left p (c ∷ cs) h =
+    by (p c)
+    (all_left p c.conn.0 cs (IsDistinct-head nat_eq c.conn.0 (map (λ d. d.conn.0) cs) h))
+    (apart_left p cs (IsDistinct-tail nat_eq c.conn.0 (map (λ d. d.conn.0) cs) h))
+  where
+    all_left : (p : Connection → Bool) (n : ℕ) (cs : List Connection) →
+        AllByRecursion (λ m. nat_eq n m ≡ false) (map (λ d. d.conn.0) cs) →
+        AllByRecursion (λ m. nat_eq n m ≡ false) (map (λ d. d.conn.0) (filter p cs))
+    all_left p n [] h = tt
+    all_left p n (d ∷ cs) h = either (p d) (all_left p n cs h.1)
+      where
+        either : (v : Bool) → AllByRecursion (λ m. nat_eq n m ≡ false) (map (λ d. d.conn.0) (filter p cs)) →
+            AllByRecursion (λ m. nat_eq n m ≡ false) (map (λ d. d.conn.0) (cond v (d ∷ filter p cs) (filter p cs)))
+        either true rest = (h.0, rest)
+        either false rest = rest
+
+    by : (v : Bool) → AllByRecursion (λ m. nat_eq c.conn.0 m ≡ false) (map (λ d. d.conn.0) (filter p cs)) →
+        IsDistinct nat_eq (map (λ d. d.conn.0) (filter p cs)) →
+        IsDistinct nat_eq (map (λ d. d.conn.0) (cond v (c ∷ filter p cs) (filter p cs)))
+    by true other rest = IsDistinct-cons nat_eq c.conn.0 (map (λ d. d.conn.0) (filter p cs)) other rest
+    by false other rest = rest
+
 module _ {D E : Type 0} (state : E → EndState) (moves : E → List Step → E → Type 0) (b new : Board D E) (book : Book)
     (order : InOrder state b) (p : Client → Bool) (forgets : Forgets moves (without_clients b book) new)
     (left : book.clients.items ≡ filter (λ c. not (p c)) b.book.clients.items)
     (room : vec_capacity book.clients ≡ vec_capacity b.book.clients)
-    (connection_room : vec_capacity book.connections ≡ vec_capacity b.book.connections) where
+    (connection_room : vec_capacity book.connections ≡ vec_capacity b.book.connections)
+    (apart : IsDistinct nat_eq (map (λ c. c.conn.0) book.connections.items))
+    (opens : All IsOpen book.connections.items) where
   -- the book after
   abbrev last_book : Book
   last_book = record (b.book) {
     connections = book.connections;
     clients = book.clients;
     sessions = new.book.sessions;
+    levels_changed = true;
   }
 
   book_left : IsBook last_book
@@ -53,8 +85,9 @@ module _ {D E : Type 0} (state : E → EndState) (moves : E → List Step → E 
           connections = let r = rooms.connections in omega (arith, connection_room);
           clients = let r = rooms.clients in omega (arith, room);
           endpoints = rooms.endpoints;
-          sessions = let r = rooms.sessions in let s = forgets.session_room in omega arith;
         };
+        apart = apart;
+        opens = opens;
         clients =
             subst (λ cs. RisesFrom 0 (live_clients cs)) (sym left)
             (rises_kept (λ c. c.client.0) (λ c. not (p c)) 0 b.book.clients.items old.clients);
@@ -66,7 +99,9 @@ module _ {D E : Type 0} (state : E → EndState) (moves : E → List Step → E 
         clients_made = old.clients_made;
         endpoints = old.endpoints;
         added = old.added;
-        sessions_made = old.sessions_made;
+        levels =
+            subst (All HasLevels) (sym left)
+            (All-filter (λ c. not (p c)) HasLevels b.book.clients.items old.levels);
       }
 
   belongs_left : (e : StreamEntry E) → Belongs b.book b.seats.items e → is_of_live book.clients.items e ≡ true →
@@ -81,7 +116,8 @@ module _ {D E : Type 0} (state : E → EndState) (moves : E → List Step → E 
     endpoint = h.endpoint;
     there = h.there;
     channels = h.channels;
-    gains = h.gains;
+    within = h.within;
+    gains = λ t. absurd (true≢false t);
     renders = h.renders;
     position = h.position;
   }

@@ -15,9 +15,9 @@ use Rattle.ca_stage.specs.Moves.{after_moves}
 use Rattle.ca_stage.specs.Tally.{Tally, tally_after}
 use Rattle.ca_stage.specs.Order.{RisesFrom, is_among}
 use Rattle.ca_stage.specs.Present.{present}
+use Rattle.session_manager.specs.declared.session.Session.{Session}
 use Rattle.ca_machine.specs.declared.state.Client.{Client}
 use Rattle.ca_machine.specs.declared.state.Connection.{Connection}
-use Rattle.ca_machine.specs.declared.state.Session.{Session}
 use Rattle.ca_machine.specs.State.{State, live_clients}
 use Rattle.ca_machine.specs.Plan.{moved}
 use Rattle.ca_machine.specs.Clients.{closes, is_used, with_clients}
@@ -73,7 +73,7 @@ filter_alike p q h (x ∷ xs) = ap₂ (λ v ys. cond v (x ∷ ys) ys) (h x) (fil
 -- a session of one of these entries is one of their streams
 used_is : {E : Type 0} (datas : ℕ → BufferData) (entries : List (StreamEntry E)) (s : Session) →
     is_used (streams_of datas entries) s ≡ is_in_use entries s
-used_is datas entries s = any_mapped (λ (x : Stream). x.session == s.session.0) (stream_of datas) entries
+used_is datas entries s = any_mapped (λ (x : Stream). x.session == s.no.0) (stream_of datas) entries
 
 -- a board once clients left the book, and, it may be, their connection
 abbrev pub without_clients : {D E : Type 0} → Board D E → Book → Board D E
@@ -125,12 +125,12 @@ module _ {D E : Type 0} (moves : E → List Step → E → Type 0) (b new : Boar
       connections = connections;
     }
 
-    sessions_are : new.book.sessions.items ≡ filter (is_used after.streams) b.book.sessions.items
+    sessions_are : new.book.sessions.list ≡ filter (is_used after.streams) b.book.sessions.list
     sessions_are =
         forgets.sessions
         ∙ filter_alike (is_in_use new.entries.items) (is_used after.streams)
         (λ s. sym (used_is (after_steps leaving_steps b.entries.items datas) new.entries.items s))
-        b.book.sessions.items
+        b.book.sessions.list
 
     pub state_left : (t : Tally) (connections : List Connection) → book.connections.items ≡ connections →
         state_of (after_steps leaving_steps b.entries.items datas) (tally_after t before (closes gone_clients)) new
@@ -139,8 +139,11 @@ module _ {D E : Type 0} (moves : E → List Step → E → Type 0) (b new : Boar
     state_left t connections same =
         let tally : Tally = tally_after t before (closes gone_clients) in
         ap (state_of (after_steps leaving_steps b.entries.items datas) tally) forgets.rest
+        ∙ ap (λ made. record (built tally after new.book.sessions.list book.clients.items book.connections.items) {
+          sessions_made = made;
+        }) forgets.made
         ∙ ap (λ ss. built tally after ss book.clients.items book.connections.items) sessions_are
-        ∙ ap (λ (st : Stage). built tally st (filter (is_used st.streams) b.book.sessions.items) book.clients.items
+        ∙ ap (λ (st : Stage). built tally st (filter (is_used st.streams) b.book.sessions.list) book.clients.items
         book.connections.items) stage_is
         ∙ ap₂ (λ cs ns. with_clients cs (moved (closes gone_clients)
         (record (state_of datas t b) { connections = ns }))) left same

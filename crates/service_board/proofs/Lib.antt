@@ -3,6 +3,7 @@ pub mod LookingUp
 pub mod ValidEndpoints
 pub mod Granting
 pub mod Rows
+pub mod Halves
 pub mod Supporting
 pub mod EndpointCalls
 pub mod FormatRows
@@ -15,6 +16,7 @@ pub mod ByClient
 pub mod Playing
 pub mod DuePeriods
 pub mod Fewer
+pub mod PeriodGains
 pub mod PeriodNeeds
 pub mod Offering
 pub mod PeriodDoes
@@ -35,3 +37,9 @@ pub mod Opened
 pub mod OpenedOrder
 pub mod Places
 pub mod Planning
+pub mod SettingLevels
+pub mod StreamLevels
+pub mod SettingSessions
+pub mod SameStreams
+pub mod FreshGains
+pub mod TellingSessions

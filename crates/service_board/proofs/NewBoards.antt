@@ -1,6 +1,6 @@
 -- A board of empty tables is in order, and stands for the empty state.
-use Rattle.std.proofs.Common.{◌≡◌, ◌≤◌, [], map, refl, sym, subst, arith}
-use Rattle.std.specs.List.{All, AllZip}
+use Rattle.std.proofs.Common.{◌≡◌, ◌≤◌, nat_eq, [], map, refl, sym, subst, arith}
+use Rattle.std.specs.List.{All, AllZip, IsDistinct}
 use Rattle.std.specs.Vec.{vec_capacity}
 use Rattle.std.proofs.lemmas.List.Elements.{All-nil}
 use Rattle.ca_base.specs.declared.limits.TheConstants.{CLIENTS, ENDPOINTS}
@@ -8,21 +8,27 @@ use Rattle.buffer_ring.specs.declared.step.EndState.{EndState}
 use Rattle.ca_stage.specs.Order.{RisesFrom}
 use Rattle.ca_machine.specs.State.{live_clients}
 use Rattle.period_engine.specs.Entries.{AreInOrder, IsRested}
-use Rattle.service_board.specs.InOrder.{Belongs, IsBook, Seats}
+use Rattle.service_board.specs.InOrder.{Belongs, HasLevels, IsBook, IsOpen, Seats}
 use Rattle.service_board.specs.New.{IsEmptyBook, IsNewBoard}
 use Rattle.service_board.specs.declared.board.Board.{Board}
 use Rattle.service_board.specs.declared.book.Book.{Book}
 
+none_apart : IsDistinct nat_eq []
+unfolding IsDistinct
+none_apart = tt
+
 empty_book : (b : Book) → IsEmptyBook b → IsBook b
 empty_book b empty = record {
   rooms = empty.rooms;
+  apart = subst (λ xs. IsDistinct nat_eq (map (λ c. c.conn.0) xs)) (sym empty.connections) none_apart;
+  opens = subst (All IsOpen) (sym empty.connections) (All-nil _);
   clients = subst (λ xs. RisesFrom 0 (live_clients xs)) (sym empty.clients) tt;
   few_clients = rw empty.clients (omega arith);
   made = subst (All (λ c. c.client.0 ≤ b.clients_made)) (sym empty.clients) (All-nil _);
   clients_made = rw empty.clients_made (omega arith);
   endpoints = subst (λ xs. RisesFrom 0 (map (λ e. e.endpoint.0) xs)) (sym empty.endpoints) tt;
   added = subst (All (λ e. e.endpoint.0 ≤ b.last_endpoint)) (sym empty.endpoints) (All-nil _);
-  sessions_made = rw empty.sessions_made (omega arith);
+  levels = subst (All HasLevels) (sym empty.clients) (All-nil _);
 }
 
 pub new_board : {D E : Type 0} (state : E → EndState) (b : Board D E) → IsEmptyBook b.book → b.seats.items ≡ [] →
@@ -51,6 +57,5 @@ new_board state b empty seats entries seat_room room = record {
     empty.sessions,
     empty.last_endpoint,
     empty.clients_made,
-    empty.sessions_made,
   ) refl;
 }

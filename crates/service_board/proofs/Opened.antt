@@ -1,7 +1,8 @@
 -- What an Initialize opens: the state of the board with the new entry is that of the machine, which opened its stream.
-use Rattle.std.proofs.Common.{◌≡◌, ℕ, ◌==◌, List, [], ◌∷◌, ◌++◌, Bool, true, false, Option, Some, None}
+use Rattle.std.proofs.Common.{◌≡◌, ℕ, ◌==◌, List, [], Bool, true, false, Option, Some, None}
 use Rattle.std.proofs.Common.{refl, sym, ap, ap₂, ◌∙◌, subst, eqb-true, find}
 use Rattle.std.specs.List.{insert}
+use Rattle.std.specs.Option.{option_map_or}
 use Rattle.std.specs.Int.{w64, to_le_bytes}
 use Rattle.device_io.specs.DeviceLog.{DeviceLog}
 use Rattle.ca_base.specs.declared.codes.TheConstants.Hr as hr
@@ -14,36 +15,35 @@ use Rattle.ca_stage.specs.Stage.{BufferData, Stage, Stream, no_data}
 use Rattle.ca_stage.specs.Moves.{after_move, as_opened, opened}
 use Rattle.ca_stage.specs.Tally.{Tally}
 use Rattle.ca_stage.proofs.StreamPlaces.{opened_in_place}
-use Rattle.ca_machine.specs.declared.state.Session.{Session}
-use Rattle.ca_machine.specs.State.{State, client_of}
+use Rattle.session_manager.specs.Sessions.{joined, number_joined}
+use Rattle.ca_machine.specs.declared.state.Endpoint.{Endpoint}
+use Rattle.ca_machine.specs.State.{State, client_of, is_endpoint, session_list, with_sessions}
 use Rattle.ca_machine.specs.Plan.{Outcome}
 use Rattle.ca_machine.specs.View.{AnswersBy, Outside, outside}
 use Rattle.ca_machine.specs.Streams.{
+  endpoint_channels,
   initialize_rows,
   initialized,
-  joined,
-  new_session,
+  is_kept,
+  joined_by,
   new_stream,
   opened_in,
-  process_of,
-  session_found,
+  session_key,
   shared_buffer,
-  with_session,
 }
 use Rattle.period_engine.specs.declared.entry.StreamEntry.{StreamEntry}
 use Rattle.period_engine.specs.Entries.{stream_of}
 use Rattle.service_board.specs.Board.{book_state, stage_with, state_of}
 use Rattle.service_board.specs.Does.{Does, Made, store_at}
 use Rattle.service_board.specs.Lookups.{is_entry_of}
-use Rattle.service_board.specs.Openings.{HasSession, IsFresh, Joins, OpensSession}
-use Rattle.service_board.specs.Openings.{Plans, arguments, new_entry, opening_plan, session_in}
+use Rattle.service_board.specs.Openings.{IsFresh, Joins, Plans, arguments, new_entry, opening_plan}
 use Rattle.service_board.specs.declared.board.Board.{Board}
 use Rattle.service_board.specs.declared.book.Book.{Book}
 use Rattle.service_board.specs.declared.opening.Opening.{Opening as Asked}
 use Rattle.service_board.specs.declared.opening.OpeningPlan.{OpeningPlan}
 use Rattle.service_board.proofs.Doing.{made_still}
 use Rattle.service_board.proofs.Memory.{answers_found, answers_out_of_memory}
-use Rattle.service_board.proofs.Planning.{process_is}
+use Rattle.service_board.proofs.Planning.{key_is}
 use Rattle.service_board.proofs.Places.{
   Splits,
   map_insert,
@@ -100,7 +100,7 @@ module _ {D E : Type 0} (x : Asked) (old : Board D E) (plan : OpeningPlan) (p : 
   -- ---- the session
 
   module _ (datas : ℕ → BufferData) (tally : Tally) (session : SessionNo) (book : Book)
-      (j : Joins plan.session x plan old.book session book) where
+      (j : Joins x plan old.book session book) where
     abbrev before : State
     before = state_of datas tally old
 
@@ -108,47 +108,32 @@ module _ {D E : Type 0} (x : Asked) (old : Board D E) (plan : OpeningPlan) (p : 
     abbrev between : State
     between = book_state book before.stage tally
 
-    process_found : process_of x.conn.0 before ≡ plan.process
-    process_found = process_is old x plan.process (sym p.process)
+    key_found : session_key before x.conn.0 p.named (arguments x) ≡ plan.key
+    key_found = key_is old x p.named plan.endpoint p.connection p.on p.connected datas tally ∙ sym p.key
 
-    found_is : session_found before x.conn.0 (Some p.named) (arguments x)
-        ≡ session_in plan.endpoint.0 plan.process x.session.0 old.book
-    found_is =
-        ap₂ (λ endpoint process. session_in endpoint process x.session.0 old.book) p.on process_found
+    channels_found : endpoint_channels before p.named ≡ plan.format.channels
+    channels_found =
+        ap (λ n. option_map_or (λ (e : Endpoint). e.format.channels) (find (is_endpoint n) old.book.endpoints.items) 0)
+        p.on
+        ∙ ap (λ o. option_map_or (λ (e : Endpoint). e.format.channels) o 0) p.there
+        ∙ sym p.format.channels
 
-    abbrev state_by : List Session → ℕ → State
-    state_by sessions made = record before { sessions = sessions; sessions_made = made }
-
-    new_is : OpensSession x plan old.book session.0 book → with_session before x.conn.0 p.named (arguments x) ≡ between
-    new_is o =
-        ap (λ n. state_by
-        (old.book.sessions.items ++ new_session n p.named.endpoint.0 (process_of x.conn.0 before) x.session.0 ∷ []) n)
-        (sym o.number)
-        ∙ ap₂ (λ endpoint process.
-        state_by (old.book.sessions.items ++ new_session session.0 endpoint process x.session.0 ∷ []) session.0)
-        p.on process_found
-        ∙ ap (λ sessions. state_by sessions session.0) (sym o.sessions)
-        ∙ ap (λ b. book_state b before.stage tally) (sym o.rest)
-
-    joined_is : (found : Option Session) (number : Option SessionNo) → HasSession found old.book number →
-        Joins number x plan old.book session book →
-        joined before x.conn.0 p.named (arguments x) found ≡ opened_in between p.named (arguments x) session.0
-    joined_is (Some s) number h joins =
-        let k : Joins (Some s.session) x plan old.book session book =
-        subst (λ o. Joins o x plan old.book session book) h joins in
-        ap₂ (λ b (n : SessionNo). opened_in (book_state b before.stage tally) p.named (arguments x) n.0)
-        (sym k.1) (sym k.0)
-    joined_is None number h joins =
-        let o : OpensSession x plan old.book session.0 book =
-        subst (λ o. Joins o x plan old.book session book) h.0 joins in
-        ap₂ (λ st n. opened_in st p.named (arguments x) n) (new_is o) (sym o.number)
+    joined_is :
+        with_sessions (joined plan.key None (is_kept x.flags) plan.format.channels (session_list before)) before
+        ≡ between
+    joined_is =
+        ap (λ ss. with_sessions ss before) (sym j.sessions)
+        ∙ ap (λ b. book_state b before.stage tally) (sym j.rest)
 
     pub outcome_is : initialized before x.conn.0 (client_of x.conn.0 x.client.0 before) (arguments x)
         ≡ opened_in between p.named (arguments x) session.0
     outcome_is =
         ap (λ o. initialized before x.conn.0 o (arguments x)) p.found
-        ∙ ap (joined before x.conn.0 p.named (arguments x)) found_is
-        ∙ joined_is (session_in plan.endpoint.0 plan.process x.session.0 old.book) plan.session p.session j
+        ∙ ap (joined_by before p.named (arguments x)) key_found
+        ∙ ap (λ n. opened_in
+        (with_sessions (joined plan.key None (is_kept x.flags) n (session_list before)) before)
+        p.named (arguments x) (number_joined plan.key (session_list before))) channels_found
+        ∙ ap₂ (λ st n. opened_in st p.named (arguments x) n) joined_is (sym j.number)
 
   -- ---- what it does
 
@@ -201,7 +186,7 @@ module _ {D E : Type 0} (x : Asked) (old : Board D E) (plan : OpeningPlan) (p : 
 
     pub opened_does : (given : Option E) (at : ℕ) (session : SessionNo) (store : E) (new : Board D E) →
         given ≡ Some store → new.devices ≡ old.devices → new.seats ≡ old.seats →
-        Joins plan.session x plan old.book session new.book →
+        Joins x plan old.book session new.book →
         Splits x.client.0 at old.entries.items →
         new.entries.items ≡ insert old.entries.items at (new_entry x plan session store) →
         Does faults told moves given (IsFresh x.client.0) old new (opening_plan x) hr.S_OK (to_le_bytes w64 session.0)

@@ -1,24 +1,28 @@
 -- What an Initialize opens stands in order, and there is room for it.
 use Rattle.std.proofs.Common.{◌≡◌, ℕ, suc, ◌<◌, ◌≤◌, ◌==◌, ◌&&◌, List, [], ◌∷◌, length, Bool, true}
-use Rattle.std.proofs.Common.{false, cond, Option, Some, None, refl, sym, ap, ◌∙◌, subst, arith, find, eqb-true}
+use Rattle.std.proofs.Common.{false, cond, Some, refl, sym, ap, ◌∙◌, subst, arith, find, eqb-true}
 use Rattle.std.specs.List.{All, AllByRecursion, AllZip, insert}
 use Rattle.std.specs.Vec.{vec_capacity}
 use Rattle.std.proofs.lemmas.List.{length-map}
 use Rattle.std.proofs.lemmas.List.Elements.{All-from_recursion, recursion_from_All}
+use Rattle.std.proofs.lemmas.Bool.{true≢false}
 use Rattle.std.proofs.lemmas.Option.{none-some, same_Some}
 use Rattle.ca_base.specs.declared.ids.SessionNo.{SessionNo}
-use Rattle.ca_base.specs.declared.limits.TheConstants.{CLIENTS, ENDPOINTS, MAX_COUNT, SESSIONS}
+use Rattle.ca_base.specs.declared.limits.TheConstants.{CLIENTS, ENDPOINTS, MAX_CONNECTION_NAME}
+use Rattle.volume_stack.specs.Scaling.{unit_gain}
 use Rattle.buffer_ring.specs.declared.step.EndState.{EndState}
+use Rattle.session_manager.specs.declared.session.SessionKey.{SessionKey}
+use Rattle.session_manager.specs.Sessions.{SessionList}
 use Rattle.ca_stage.specs.Order.{RisesFrom, is_among}
-use Rattle.ca_stage.proofs.Lists.{all-map, all_weaker, found_passes}
+use Rattle.ca_stage.proofs.Lists.{all-map, all_found, all_weaker, chosen, found_passes}
 use Rattle.ca_machine.specs.declared.state.Client.{Client}
-use Rattle.ca_machine.specs.declared.state.Session.{Session}
-use Rattle.ca_machine.specs.State.{is_client_of, live_clients}
+use Rattle.ca_machine.specs.State.{is_client_of, is_connection, live_clients}
+use Rattle.ca_machine.specs.Streams.{is_cross_process}
 use Rattle.ca_machine.proofs.LiveClients.{found_is_live}
 use Rattle.period_engine.specs.declared.entry.StreamEntry.{StreamEntry}
 use Rattle.period_engine.specs.Entries.{AreInOrder, IsRested}
-use Rattle.service_board.specs.InOrder.{Belongs, InOrder, IsBook, Seats}
-use Rattle.service_board.specs.Openings.{HasSession, IsNewStore, Joins, Plans, new_entry, session_in}
+use Rattle.service_board.specs.InOrder.{Belongs, InOrder, IsBook, IsOpen, Seats}
+use Rattle.service_board.specs.Openings.{IsNewStore, Joins, Plans, new_entry}
 use Rattle.service_board.specs.declared.board.Board.{Board}
 use Rattle.service_board.specs.declared.board.Seat.{Seat}
 use Rattle.service_board.specs.declared.book.Book.{Book}
@@ -67,71 +71,56 @@ found_live conn n low (d ∷ clients) c r f same =
 
 -- ---- the book
 
--- a stream that joins a session leaves all else of the book
-pub book_rest : (number : Option SessionNo) (x : Asked) (plan : OpeningPlan) (old new : Book) (session : SessionNo) →
-    Joins number x plan old session new →
-    new ≡ record old { sessions = new.sessions; sessions_made = new.sessions_made }
-book_rest (Some s) x plan old new session j =
-    subst (λ b. b ≡ record old { sessions = b.sessions; sessions_made = b.sessions_made }) (sym j.1) refl
-book_rest None x plan old new session j =
-    j.rest ∙ ap (λ n. record old { sessions = new.sessions; sessions_made = n })
-    (sym (ap (λ (b : Book). b.sessions_made) j.rest))
+-- a book after a stream joined a session: gains are to be computed
+abbrev after_joining : Book → SessionList → Book
+after_joining old sessions = record old { sessions = sessions; levels_changed = true }
 
--- there is room for all sessions, and their count is in range
-sessions_fit : (number : Option SessionNo) (found : Option Session) (x : Asked) (plan : OpeningPlan) (old new : Book)
-    (session : SessionNo) → HasSession found old number → Joins number x plan old session new → IsBook old →
-    (SESSIONS ≤ vec_capacity new.sessions) × (new.sessions_made ≤ MAX_COUNT)
-sessions_fit (Some s) found x plan old new session h j o =
-    subst (λ (b : Book). (SESSIONS ≤ vec_capacity b.sessions) × (b.sessions_made ≤ MAX_COUNT)) (sym j.1)
-    (o.rooms.sessions, o.sessions_made)
-sessions_fit None None x plan old new session h j o =
-    let room = j.room in
-    let sessions = o.rooms.sessions in
-    let made : new.sessions_made ≡ session.0 = ap (λ (b : Book). b.sessions_made) j.rest in
-    let number = j.number in
-    let count = h.2 in
-    (omega arith, omega arith)
-sessions_fit None (Some s) x plan old new session h j o = cc
+book_joined : (old : Book) (sessions : SessionList) → IsBook old → IsBook (after_joining old sessions)
+book_joined old sessions o = record {
+  rooms = record {
+    connections = o.rooms.connections;
+    clients = o.rooms.clients;
+    endpoints = o.rooms.endpoints;
+  };
+  apart = o.apart;
+  opens = o.opens;
+  clients = o.clients;
+  few_clients = o.few_clients;
+  made = o.made;
+  clients_made = o.clients_made;
+  endpoints = o.endpoints;
+  added = o.added;
+  levels = o.levels;
+}
 
-pub book_joined : (number : Option SessionNo) (found : Option Session) (x : Asked) (plan : OpeningPlan)
-    (old new : Book) (session : SessionNo) → HasSession found old number → Joins number x plan old session new →
-    IsBook old → IsBook new
-book_joined number found x plan old new session h j o =
-    let fits = sessions_fit number found x plan old new session h j o in
-    let is : IsBook (record old { sessions = new.sessions; sessions_made = new.sessions_made }) = record {
-      rooms = record {
-        connections = o.rooms.connections;
-        clients = o.rooms.clients;
-        endpoints = o.rooms.endpoints;
-        sessions = fits.0;
-      };
-      clients = o.clients;
-      few_clients = o.few_clients;
-      made = o.made;
-      clients_made = o.clients_made;
-      endpoints = o.endpoints;
-      added = o.added;
-      sessions_made = fits.1;
-    } in
-    subst IsBook (sym (book_rest number x plan old new session j)) is
+belongs_joined : {E : Type 0} (old : Book) (sessions : SessionList) (seats : List Seat) (e : StreamEntry E) →
+    Belongs old seats e → Belongs (after_joining old sessions) seats e
+belongs_joined old sessions seats e b = record {
+  client = b.client;
+  live = b.live;
+  on = b.on;
+  endpoint = b.endpoint;
+  there = b.there;
+  channels = b.channels;
+  within = b.within;
+  gains = λ t. absurd (true≢false t);
+  renders = b.renders;
+  position = b.position;
+}
 
--- an entry belongs to a book of which the sessions alone are others
-belongs_on : {E : Type 0} (old new : Book) (seats : List Seat) (e : StreamEntry E) →
-    new ≡ record old { sessions = new.sessions; sessions_made = new.sessions_made } → Belongs old seats e →
-    Belongs new seats e
-belongs_on old new seats e rest b =
-    let is : Belongs (record old { sessions = new.sessions; sessions_made = new.sessions_made }) seats e = record {
-      client = b.client;
-      live = b.live;
-      on = b.on;
-      endpoint = b.endpoint;
-      there = b.there;
-      channels = b.channels;
-      gains = b.gains;
-      renders = b.renders;
-      position = b.position;
-    } in
-    subst (λ k. Belongs k seats e) (sym rest) is
+-- the name of a session that a stream joins fits: it is that of an open connection, or one byte
+pub key_fits : {D E : Type 0} (x : Asked) (b : Board D E) (plan : OpeningPlan) → Plans x b plan → IsBook b.book →
+    length plan.key.name ≤ MAX_CONNECTION_NAME
+key_fits x b plan p is =
+    let c = p.connection in
+    let is_open : IsOpen c =
+    all_found IsOpen (is_connection x.conn.0) b.book.connections.items c
+    (recursion_from_All IsOpen b.book.connections.items is.opens) p.connected in
+    subst (λ (k : SessionKey). length k.name ≤ MAX_CONNECTION_NAME) (sym p.key)
+    (chosen (λ (k : SessionKey). length k.name ≤ MAX_CONNECTION_NAME) (is_cross_process x.flags)
+    (record { endpoint = plan.endpoint; process = 0; guid = x.session; name = 42 ∷ [] })
+    (record { endpoint = plan.endpoint; process = c.process; guid = x.session; name = c.name })
+    (omega arith) is_open.name)
 
 -- ---- the entries
 
@@ -200,8 +189,8 @@ module _ {D E : Type 0} (state : E → EndState) (x : Asked) (old : Board D E) (
     unpicked = refl;
   }
 
-  new_belongs : Belongs old.book old.seats.items entry
-  new_belongs = record {
+  new_belongs : (sessions : SessionList) → Belongs (after_joining old.book sessions) old.seats.items entry
+  new_belongs sessions = record {
     client = p.named;
     live =
         found_live x.conn.0 x.client.0 0 old.book.clients.items p.named order.book.clients p.found p.client_is;
@@ -209,14 +198,25 @@ module _ {D E : Type 0} (state : E → EndState) (x : Asked) (old : Board D E) (
     endpoint = p.endpoint;
     there = p.there;
     channels = p.format.channels;
-    gains = refl;
+    within = All-from_recursion (λ gain. gain ≤ unit_gain) entry.gains
+        (omega arith, (omega arith, (omega arith, (omega arith, tt))));
+    gains = λ t. absurd (true≢false t);
     renders = refl;
     position = omega arith;
   }
 
+  all_belong : (sessions : SessionList) →
+      All (Belongs (after_joining old.book sessions) old.seats.items) (insert old.entries.items at entry)
+  all_belong sessions =
+      All-from_recursion (Belongs (after_joining old.book sessions) old.seats.items)
+      (insert old.entries.items at entry)
+      (all_insert (Belongs (after_joining old.book sessions) old.seats.items) at entry old.entries.items
+      (all_weaker (Belongs old.book old.seats.items) (Belongs (after_joining old.book sessions) old.seats.items)
+      (belongs_joined old.book sessions old.seats.items) old.entries.items
+      (recursion_from_All (Belongs old.book old.seats.items) old.entries.items order.belong)) (new_belongs sessions))
+
   pub opened_order : (new : Board D E) → IsNewStore state plan.buffer store → new.seats ≡ old.seats →
-      Joins plan.session x plan old.book session new.book →
-      new.entries.items ≡ insert old.entries.items at entry →
+      Joins x plan old.book session new.book → new.entries.items ≡ insert old.entries.items at entry →
       vec_capacity old.entries ≤ vec_capacity new.entries → InOrder state new
   opened_order new is seats j items more = record {
     order = subst AreInOrder (sym items) numbers_rise;
@@ -228,20 +228,12 @@ module _ {D E : Type 0} (state : E → EndState) (x : Asked) (old : Board D E) (
     belong =
         subst (All (Belongs new.book new.seats.items)) (sym items)
         (subst (λ ss. All (Belongs new.book ss) (insert old.entries.items at entry)) (ap (λ v. v.items) (sym seats))
-        (All-from_recursion (Belongs new.book old.seats.items) (insert old.entries.items at entry)
-        (all_weaker (Belongs old.book old.seats.items) (Belongs new.book old.seats.items)
-        (λ e b. belongs_on old.book new.book old.seats.items e rest b) (insert old.entries.items at entry)
-        (all_insert (Belongs old.book old.seats.items) at entry old.entries.items
-        (recursion_from_All (Belongs old.book old.seats.items) old.entries.items order.belong) new_belongs))));
+        (subst (λ k. All (Belongs k old.seats.items) (insert old.entries.items at entry)) (sym j.rest)
+        (all_belong new.book.sessions)));
     seats =
         subst (λ ss. AllZip Seats ss new.book.endpoints.items) (ap (λ v. v.items) (sym seats))
-        (subst (λ (b : Book). AllZip Seats old.seats.items b.endpoints.items) (sym rest) order.seats);
-    book =
-        book_joined plan.session (session_in plan.endpoint.0 plan.process x.session.0 old.book) x plan old.book new.book
-        session p.session j order.book;
+        (subst (λ (b : Book). AllZip Seats old.seats.items b.endpoints.items) (sym j.rest) order.seats);
+    book = subst IsBook (sym j.rest) (book_joined old.book new.book.sessions order.book);
     room = let room = order.room in omega arith;
     seat_room = subst (λ v. ENDPOINTS ≤ vec_capacity v) (sym seats) order.seat_room;
   }
-    where
-      rest : new.book ≡ record (old.book) { sessions = new.book.sessions; sessions_made = new.book.sessions_made }
-      rest = book_rest plan.session x plan old.book new.book session j

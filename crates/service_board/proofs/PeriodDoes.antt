@@ -27,11 +27,11 @@ use Rattle.ca_stage.proofs.MapPeriods.{mixed_at_sound}
 use Rattle.ca_stage.proofs.Periods.{period_by}
 use Rattle.ca_stage.proofs.SubSteps.{plays_on as plays_open_on}
 use Rattle.ca_machine.specs.declared.state.Endpoint.{Endpoint}
-use Rattle.ca_machine.specs.State.{empty_state}
-use Rattle.ca_machine.specs.Plan.{Answer, IsWriting, is_whole, pieces}
+use Rattle.ca_machine.specs.State.{State, empty_state}
+use Rattle.ca_machine.specs.Plan.{Answer, IsWriting, pieces}
 use Rattle.ca_machine.specs.Plan as plan
 use Rattle.ca_machine.specs.Periods.{bytes_due, mixing_of, period_frames, period_of, period_payload, period_plan}
-use Rattle.ca_machine.specs.Periods.{sounding, with_failed}
+use Rattle.ca_machine.specs.Periods.{with_failed}
 use Rattle.ca_machine.specs.Periods as machine
 use Rattle.ca_machine.specs.View.{AnswersBy, outside}
 use Rattle.period_engine.specs.Agreement.{AllAgree}
@@ -48,6 +48,7 @@ use Rattle.service_board.specs.declared.board.Seat.{Seat}
 use Rattle.service_board.proofs.ByClient.{all_made, are_after, streams_went}
 use Rattle.service_board.proofs.Offering.{answers_granted_by, answers_of, answers_write, faults_rise, pieces_are}
 use Rattle.service_board.proofs.Offering.{whole_is}
+use Rattle.service_board.proofs.PeriodGains.{gain_is}
 use Rattle.service_board.proofs.PeriodNeeds.{end_gains, ends_length, units}
 
 -- ---- what a period makes of a stream
@@ -136,7 +137,7 @@ failed_in_place low n (suc at) (x ∷ endpoints) e rises here number =
     ap₂ (λ y ys. y ∷ ys) (ap (λ b. if b then record x { state = STATE_NOTPRESENT } else x) (sym other))
     (failed_in_place (suc x.endpoint.0) n at endpoints e rises.1 here number)
 
--- ---- gains that change nothing
+-- ---- the gains of the endpoint
 
 each_unit : (channels channel : ℕ) → channel < length (end_gains channels) →
     slice_index (end_gains channels) channel ≡ unit_gain
@@ -144,13 +145,6 @@ each_unit channels channel lt =
     let P : ℕ → Type 0 = λ gain. gain ≡ unit_gain in
     All-get_or P (end_gains channels) channel 0 lt
     (All-take P channels units (All-from_recursion P units (refl, (refl, (refl, (refl, tt))))))
-
-unit_at : (channels channel : ℕ) → channels ≤ 4 → channel < length (end_gains channels) →
-    slice_index units channel ≡ unit_gain
-unit_at channels channel few lt =
-    let P : ℕ → Type 0 = λ gain. gain ≡ unit_gain in
-    let size = ends_length channels few in
-    All-get_or P units channel 0 (omega arith) (All-from_recursion P units (refl, (refl, (refl, (refl, tt)))))
 
 -- ---- the period
 
@@ -165,6 +159,17 @@ after_period_is : (m : Mixing) (whole : Bool) (st : Stage) →
 after_period_is m true st = refl
 after_period_is m false st = refl
 
+-- neither the playheads nor the payload of a period depend on the gains
+heads_alike : (before st : State) (e : Endpoint) (whole : Bool) (heads : List Playhead) →
+    heads_by (mixing_of before e) whole heads ≡ heads_by (mixing_of st e) whole heads
+heads_alike before st e true heads = refl
+heads_alike before st e false heads = refl
+
+payload_alike : (before st : State) (e : Endpoint) (whole : Bool) →
+    period_payload (mixing_of before e) whole ≡ period_payload (mixing_of st e) whole
+payload_alike before st e true = refl
+payload_alike before st e false = refl
+
 module _ {D E : Type 0} (faults : D → ℕ) (told : D → Option (List DeviceLog)) (moves : E → List Step → E → Type 0)
     (state : E → EndState) (b new : Board D E) (order : InOrder state b) (number at : ℕ) (due : FindsDue number b at)
     (whole : Bool)
@@ -175,8 +180,9 @@ module _ {D E : Type 0} (faults : D → ℕ) (told : D → Option (List DeviceLo
     abbrev its_endpoint : Endpoint
     its_endpoint = due.active.endpoint
 
-    abbrev pub its_mixing : Mixing
-    its_mixing = mixing_of empty_state its_endpoint
+    -- a mixing of the endpoint's period, whatever its gains
+    abbrev pub any_mixing : Mixing
+    any_mixing = mixing_of empty_state its_endpoint
 
     abbrev pub stage_by : (ℕ → BufferData) → Stage
     stage_by datas = stage_with datas b.seats.items b.entries.items
@@ -185,19 +191,28 @@ module _ {D E : Type 0} (faults : D → ℕ) (told : D → Option (List DeviceLo
     rises datas =
         subst (RisesFrom 0) (sym (map_map (λ (s : Stream). s.client) (stream_of datas) b.entries.items)) order.order
 
-    mixes : MixesThese its_mixing its_endpoint.endpoint.0 (period_frames its_endpoint)
-        (end_gains its_endpoint.format.channels) b.entries.items
-    mixes = record {
-      endpoint = refl;
-      lasts = refl;
-      channels = sym (ends_length its_endpoint.format.channels due.seats.format.few_channels);
-      gains = λ k d lt channel below.
-          sym (ap (λ gains. slice_index gains channel) (order.belong k d lt).gains
-          ∙ unit_at its_endpoint.format.channels channel due.seats.format.few_channels below);
-      end_gains = λ channel below. sym (each_unit its_endpoint.format.channels channel below);
-    }
+    module _ (fresh : b.book.levels_changed ≡ false) (datas : ℕ → BufferData) (tally : Tally)
+        (agree : AllAgree plays.steps datas b.entries.items) where
+      -- what the period mixes by
+      abbrev its_mixing : Mixing
+      its_mixing = mixing_of (state_of datas tally b) its_endpoint
 
-    module _ (datas : ℕ → BufferData) (agree : AllAgree plays.steps datas b.entries.items) where
+      mixes : MixesThese its_mixing its_endpoint.endpoint.0 (period_frames its_endpoint)
+          (end_gains its_endpoint.format.channels) b.entries.items
+      mixes = record {
+        endpoint = refl;
+        lasts = refl;
+        channels = sym (ends_length its_endpoint.format.channels due.seats.format.few_channels);
+        gains = λ k d lt channel below.
+            gain_is state b order fresh datas tally k d lt channel
+            (omega (
+              arith,
+              ends_length its_endpoint.format.channels due.seats.format.few_channels,
+              due.seats.format.few_channels,
+            ));
+        end_gains = λ channel below. sym (each_unit its_endpoint.format.channels channel below);
+      }
+
       abbrev datas_after : ℕ → BufferData
       datas_after = after_steps plays.steps b.entries.items datas
 
@@ -216,26 +231,35 @@ module _ {D E : Type 0} (faults : D → ℕ) (told : D → Option (List DeviceLo
           (streams_of datas b.entries.items) (all_of _ (plays_alike its_mixing whole)
           (streams_of datas b.entries.items))
 
-    module _ (heads : map playhead_of new.seats.items ≡ heads_by its_mixing whole (map playhead_of b.seats.items))
+    module _ (fresh : b.book.levels_changed ≡ false)
+        (heads : map playhead_of new.seats.items ≡ heads_by any_mixing whole (map playhead_of b.seats.items))
         (book : (stage : Stage) (tally : Tally) → book_state new.book stage tally
         ≡ machine.after_period its_endpoint.endpoint.0 whole (book_state b.book stage tally))
-        (payload : List ℕ) (payload_is : payload ≡ period_payload its_mixing whole)
+        (payload : List ℕ) (payload_is : payload ≡ period_payload any_mixing whole)
       where
         module _ (datas : ℕ → BufferData) (tally : Tally) (agree : AllAgree plays.steps datas b.entries.items) where
+          abbrev mixing : Mixing
+          mixing = its_mixing fresh datas tally agree
+
           abbrev sub_moves : List Move
-          sub_moves = sub_steps its_mixing whole (stage_by datas)
+          sub_moves = sub_steps mixing whole (stage_by datas)
 
           abbrev tally_then : Tally
           tally_then = tally_after tally (stage_by datas) sub_moves
 
-          stage_is : stage_with (datas_after datas agree) new.seats.items new.entries.items
-              ≡ after_moves (stage_by datas) sub_moves
-          stage_is =
-              ap₂ (λ hs ss. record { playheads = hs; streams = ss }) heads (streams_are datas agree)
-              ∙ sym (after_period_is its_mixing whole (stage_by datas))
-              ∙ sym (period_by its_mixing (stage_by datas) (rises datas) whole)
+          abbrev data_then : ℕ → BufferData
+          data_then = datas_after fresh datas tally agree
 
-          state_is : state_of (datas_after datas agree) tally_then new
+          stage_is : stage_with data_then new.seats.items new.entries.items ≡ after_moves (stage_by datas) sub_moves
+          stage_is =
+              ap₂ (λ hs ss. record { playheads = hs; streams = ss })
+              (heads
+              ∙ heads_alike empty_state (state_of datas tally b) its_endpoint whole (map playhead_of b.seats.items))
+              (streams_are fresh datas tally agree)
+              ∙ sym (after_period_is mixing whole (stage_by datas))
+              ∙ sym (period_by mixing (stage_by datas) (rises datas) whole)
+
+          state_is : state_of data_then tally_then new
               ≡ machine.after_period its_endpoint.endpoint.0 whole (plan.moved sub_moves (state_of datas tally b))
           state_is =
               ap (λ stage. book_state new.book stage tally_then) stage_is
@@ -245,28 +269,31 @@ module _ {D E : Type 0} (faults : D → ℕ) (told : D → Option (List DeviceLo
           given = answers_of plays.offers.counts whole
 
           answers : AnswersBy (state_of datas tally b) (period_of (state_of datas tally b) (Some its_endpoint)) hr.S_OK
-              payload (state_of (datas_after datas agree) tally_then new) (outside faults told b.devices)
+              payload (state_of data_then tally_then new) (outside faults told b.devices)
               (outside faults told new.devices)
           answers =
               let st = state_of datas tally b in
               let counts = plays.offers.counts in
               let is_w = whole_is counts whole in
+              let bytes = bytes_are fresh datas tally agree in
               answers_granted_by st (period_of st (Some its_endpoint)) hr.S_OK payload
-              (state_of (datas_after datas agree) tally_then new) (outside faults told b.devices)
+              (state_of data_then tally_then new) (outside faults told b.devices)
               (outside faults told new.devices) given
               (sym (ap (λ o. first (period_of st o).rows) due.active.found) ∙ due.says datas tally)
-              (subst (λ n. IsWriting n given) (ap length (bytes_are datas agree))
+              (subst (λ n. IsWriting n given) (ap length bytes)
               (answers_write counts whole (length plays.bytes) plays.offers.taken))
               refl
-              (payload_is ∙ ap (period_payload its_mixing) (sym is_w))
+              (payload_is
+              ∙ payload_alike empty_state st its_endpoint whole
+              ∙ ap (period_payload mixing) (sym is_w))
               (state_is ∙ ap (λ w. machine.after_period its_endpoint.endpoint.0 w
-              (plan.moved (sub_steps its_mixing w (stage_by datas)) st)) (sym is_w))
+              (plan.moved (sub_steps mixing w (stage_by datas)) st)) (sym is_w))
               (record {
                 tells =
                     plays.offers.tells
                     ∙ ap (λ ps. option_map (add_all ps) (told b.devices))
                     (sym (pieces_are its_endpoint.endpoint.0 plays.bytes counts whole)
-                    ∙ ap (λ bs. pieces its_endpoint.endpoint.0 bs given) (bytes_are datas agree));
+                    ∙ ap (λ bs. pieces its_endpoint.endpoint.0 bs given) bytes);
                 counts = faults_rise counts whole (faults b.devices) (faults new.devices) plays.offers.rises;
               })
 
@@ -280,7 +307,7 @@ module _ {D E : Type 0} (faults : D → ℕ) (told : D → Option (List DeviceLo
             tally = tally_then datas tally agree;
             answers =
                 subst (λ o. AnswersBy (state_of datas tally b) (period_of (state_of datas tally b) o) hr.S_OK payload
-                (state_of (datas_after datas agree) (tally_then datas tally agree) new) (outside faults told b.devices)
-                (outside faults told new.devices)) (sym due.active.found) (answers datas tally agree);
+                (state_of (data_then datas tally agree) (tally_then datas tally agree) new)
+                (outside faults told b.devices) (outside faults told new.devices)) (sym due.active.found) (answers datas tally agree);
           };
         }

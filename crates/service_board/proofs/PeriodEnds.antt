@@ -149,10 +149,11 @@ module _ {D E : Type 0} (faults : D → ℕ) (told : D → Option (List DeviceLo
             (distinct devices xs ws e frames s block true read plays rested)
             (get_mapped playhead_of b.seats.items at due.seat due.seat_here) due.seats.number)
 
-        pub whole_does : Does faults told moves None AnyData b whole_board (λ st. period_plan st number) hr.S_OK
+        pub whole_does : b.book.levels_changed ≡ false →
+            Does faults told moves None AnyData b whole_board (λ st. period_plan st number) hr.S_OK
             (to_le_bytes w32 frames ++ 0 ∷ [])
-        whole_does =
-            period_does faults told moves state b whole_board order number at due true plays_whole whole_heads
+        whole_does fresh =
+            period_does faults told moves state b whole_board order number at due true plays_whole fresh whole_heads
             (λ stage tally. refl) (to_le_bytes w32 frames ++ 0 ∷ [])
             (ap (λ n. to_le_bytes w32 n ++ 0 ∷ []) (frames_here xs ws e frames s block read))
 
@@ -163,7 +164,7 @@ module _ {D E : Type 0} (faults : D → ℕ) (told : D → Option (List DeviceLo
             let next =
             ap (λ (t : Seat). t.next) (seat_is devices xs ws e frames s block true read plays rested) in
             period_order faults told moves state b whole_board order number at due true plays_whole whole_heads
-            (rested_here devices xs ws e frames s block true read plays rested) refl
+            (rested_here devices xs ws e frames s block true read plays rested) refl refl refl
             (λ n e found. record { endpoint = e; found = found; format = refl })
             (zip_set_seat b.seats.items b.book.endpoints.items at
             (record { endpoint = s.endpoint; next = s.next + frames; block = block }) here
@@ -205,10 +206,11 @@ module _ {D E : Type 0} (faults : D → ℕ) (told : D → Option (List DeviceLo
             (endpoint_read state b order number at due x x_read)
             ∙ failed_in_place 0 here.endpoint.0 at b.book.endpoints.items here order.book.endpoints due.active.here refl
 
-        pub failed_does : Does faults told moves None AnyData b failed_board (λ st. period_plan st number) hr.S_OK
+        pub failed_does : b.book.levels_changed ≡ false →
+            Does faults told moves None AnyData b failed_board (λ st. period_plan st number) hr.S_OK
             (to_le_bytes w32 0 ++ 1 ∷ [])
-        failed_does =
-            period_does faults told moves state b failed_board order number at due false plays_failed failed_heads
+        failed_does fresh =
+            period_does faults told moves state b failed_board order number at due false plays_failed fresh failed_heads
             (λ stage tally. ap (λ es. record (book_state b.book stage tally) { endpoints = es }) failed_endpoints)
             (to_le_bytes w32 0 ++ 1 ∷ []) refl
 
@@ -241,8 +243,9 @@ module _ {D E : Type 0} (faults : D → ℕ) (told : D → Option (List DeviceLo
                 connections = order.book.rooms.connections;
                 clients = order.book.rooms.clients;
                 endpoints = order.book.rooms.endpoints;
-                sessions = order.book.rooms.sessions;
               };
+              apart = order.book.apart;
+              opens = order.book.opens;
               clients = order.book.clients;
               few_clients = order.book.few_clients;
               made = order.book.made;
@@ -260,7 +263,7 @@ module _ {D E : Type 0} (faults : D → ℕ) (told : D → Option (List DeviceLo
                   (get_or_from_slice_get b.book.endpoints.items at here x due.active.here)
                   (order.book.added at x (endpoint_within state b order number at due))))
                   order.book.added;
-              sessions_made = order.book.sessions_made;
+              levels = order.book.levels;
             }
 
         pub failed_order : InOrder state failed_board
@@ -270,7 +273,7 @@ module _ {D E : Type 0} (faults : D → ℕ) (told : D → Option (List DeviceLo
             ap (λ (t : Seat). t.next) (seat_is devices xs ws e frames s block false read plays rested) in
             let most = due.seats.next in
             period_order faults told moves state b failed_board order number at due false plays_failed failed_heads
-            (rested_here devices xs ws e frames s block false read plays rested) refl keeps
+            (rested_here devices xs ws e frames s block false read plays rested) refl refl refl keeps
             (zip_set b.seats.items b.book.endpoints.items at
             (record { endpoint = s.endpoint; next = s.next; block = block }) (record x { state = STATE_NOTPRESENT })
             (seat_fits devices xs ws e frames s block false read plays rested

@@ -114,7 +114,7 @@ module _ {D E : Type 0} (state : E → EndState) (b : Board D E) (order : InOrde
               subst (λ n. HasRoom number n (get_or b.entries.items k d)) (sym frames_read)
               (entry_room (get_or b.entries.items k d) belongs);
           fits = λ here. entry_fits (get_or b.entries.items k d) belongs here ∙ sym its_length;
-          gains = subst (All (λ gain. gain ≤ unit_gain)) (sym belongs.gains) units_within;
+          gains = belongs.within;
         }
 
     pub block_fits : (s : Seat) → s ≡ get_or b.seats.items at s →

@@ -1,6 +1,6 @@
 -- A board is in order after a period.
 use Rattle.std.proofs.Common.{◌≡◌, ℕ, zero, suc, ◌+◌, ◌≤◌, ◌==◌, ◌&&◌, List, [], ◌∷◌, map, Bool, true, false}
-use Rattle.std.proofs.Common.{Option, Some, None, refl, sym, ap, ◌∙◌, subst, arith, eqb-true, if◌then◌else◌}
+use Rattle.std.proofs.Common.{Option, Some, None, refl, sym, ap, ap₂, ◌∙◌, subst, arith, eqb-true, if◌then◌else◌}
 use Rattle.std.proofs.Common.{slice_get, slice_set}
 use Rattle.std.specs.List.{All, AllByRecursion, AllZip, find}
 use Rattle.std.specs.Option.{option_map}
@@ -8,7 +8,9 @@ use Rattle.std.specs.Vec.{vec_capacity}
 use Rattle.std.proofs.lemmas.List.Elements.{All-from_recursion, recursion_from_All}
 use Rattle.std.proofs.lemmas.Option.{none-some, same_Some}
 use Rattle.device_io.specs.DeviceLog.{DeviceLog}
+use Rattle.ca_base.specs.declared.ids.SessionNo.{SessionNo}
 use Rattle.ca_base.specs.declared.limits.TheConstants.{CLIENTS, ENDPOINTS}
+use Rattle.volume_stack.specs.Scaling.{unit_gain}
 use Rattle.buffer_ring.specs.declared.step.EndState.{EndState}
 use Rattle.buffer_ring.specs.declared.step.Step.{Step}
 use Rattle.ca_stage.specs.Stage.{Playhead, Stream}
@@ -16,6 +18,8 @@ use Rattle.ca_stage.specs.Moves.{Mixing, finished, playhead_after}
 use Rattle.ca_stage.specs.Fates.{place_of}
 use Rattle.ca_stage.specs.Order.{RisesFrom}
 use Rattle.ca_stage.proofs.Lists.{find_map, found_passes}
+use Rattle.session_manager.specs.declared.session.Session.{Session}
+use Rattle.session_manager.specs.Sessions.{session_at}
 use Rattle.ca_machine.specs.declared.state.Client.{Client}
 use Rattle.ca_machine.specs.declared.state.Endpoint.{Endpoint}
 use Rattle.ca_machine.specs.State.{is_endpoint}
@@ -24,7 +28,7 @@ use Rattle.period_engine.specs.declared.entry.StreamEntry.{StreamEntry}
 use Rattle.period_engine.specs.Entries.{IsRested}
 use Rattle.service_board.specs.Board.{playhead_of}
 use Rattle.service_board.specs.Due.{FindsDue}
-use Rattle.service_board.specs.InOrder.{Belongs, InOrder, IsBook, Seats, is_seat, next_at}
+use Rattle.service_board.specs.InOrder.{Belongs, InOrder, IsBook, Seats, gains_by, is_seat, next_at}
 use Rattle.service_board.specs.Plays.{AllGo, GoesBy, Plays, StaysNear, plays_on}
 use Rattle.service_board.specs.declared.board.Board.{Board}
 use Rattle.service_board.specs.declared.board.Seat.{Seat}
@@ -32,7 +36,7 @@ use Rattle.service_board.specs.declared.book.Book.{Book}
 use Rattle.service_board.proofs.ByClient.{clients_stay}
 use Rattle.service_board.proofs.DuePeriods.{next_by_heads}
 use Rattle.service_board.proofs.Finding.{find_mapped}
-use Rattle.service_board.proofs.PeriodDoes.{heads_by, its_mixing}
+use Rattle.service_board.proofs.PeriodDoes.{any_mixing, heads_by}
 use Rattle.service_board.proofs.PeriodNeeds.{end_gains}
 
 -- ---- next places
@@ -115,6 +119,7 @@ pub record KeepsFormat (old new : List Endpoint) (n : ℕ) (e : Endpoint) : Type
 
 module _ {E : Type 0} (moves : E → List Step → E → Type 0) (f : Stream → Stream) (number frames : ℕ) (whole : Bool)
     (book book' : Book) (seats seats' : List Seat) (clients : book'.clients.items ≡ book.clients.items)
+    (sessions : book'.sessions ≡ book.sessions) (changed : book'.levels_changed ≡ book.levels_changed)
     (keeps : (n : ℕ) (e : Endpoint) → find (is_endpoint n) book.endpoints.items ≡ Some e →
     KeepsFormat book.endpoints.items book'.endpoints.items n e)
     (next : (n : ℕ) → next_at n seats + (if whole && n == number then frames else 0) ≤ next_at n seats')
@@ -138,7 +143,12 @@ module _ {E : Type 0} (moves : E → List Step → E → Type 0) (f : Stream →
           endpoint = kept.endpoint;
           there = ap (λ n. find (is_endpoint n) book'.endpoints.items) endpoint ∙ kept.found;
           channels = goes.same.channels ∙ h.channels ∙ ap (λ format. format.channels) (sym kept.format);
-          gains = goes.same.gains ∙ h.gains;
+          within = subst (All (λ gain. gain ≤ unit_gain)) (sym goes.same.gains) h.within;
+          gains = λ fresh.
+              goes.same.gains
+              ∙ h.gains (sym changed ∙ fresh)
+              ∙ ap₂ (λ (s : SessionNo) (list : List Session). gains_by h.client.levels (session_at s.0 list))
+              (sym goes.same.session) (ap (λ s. s.list) (sym sessions));
           renders = goes.same.kind ∙ h.renders;
           position = subst (λ n. b.position ≤ next_at n seats') (sym endpoint) within;
         }
@@ -161,7 +171,7 @@ module _ {D E : Type 0} (faults : D → ℕ) (told : D → Option (List DeviceLo
     (end_gains due.active.endpoint.format.channels) whole b.entries.items new.entries.items (faults b.devices)
     (told b.devices) (faults new.devices) (told new.devices))
     (heads : map playhead_of new.seats.items
-    ≡ heads_by (its_mixing faults told moves state b new order number at due whole plays) whole
+    ≡ heads_by (any_mixing faults told moves state b new order number at due whole plays) whole
     (map playhead_of b.seats.items))
   where
     abbrev number_of : ℕ
@@ -171,7 +181,7 @@ module _ {D E : Type 0} (faults : D → ℕ) (told : D → Option (List DeviceLo
     frames_of = period_frames due.active.endpoint
 
     abbrev mixing : Mixing
-    mixing = its_mixing faults told moves state b new order number at due whole plays
+    mixing = any_mixing faults told moves state b new order number at due whole plays
 
     head_there : (n : ℕ) → n ≡ number_of →
         (e : Playhead) × (find (λ (e : Playhead). e.number == n) (map playhead_of b.seats.items) ≡ Some e)
@@ -192,11 +202,12 @@ module _ {D E : Type 0} (faults : D → ℕ) (told : D → Option (List DeviceLo
         (next_rises mixing whole n (map playhead_of b.seats.items) (head_there n)))
 
     pub period_order : All (IsRested state) new.entries.items → new.book.clients.items ≡ b.book.clients.items →
+        new.book.sessions ≡ b.book.sessions → new.book.levels_changed ≡ b.book.levels_changed →
         ((n : ℕ) (e : Endpoint) → find (is_endpoint n) b.book.endpoints.items ≡ Some e →
         KeepsFormat b.book.endpoints.items new.book.endpoints.items n e) →
         AllZip Seats new.seats.items new.book.endpoints.items → IsBook new.book →
         CLIENTS ≤ vec_capacity new.entries → ENDPOINTS ≤ vec_capacity new.seats → InOrder state new
-    period_order rested clients keeps seats book room seat_room = record {
+    period_order rested clients sessions changed keeps seats book room seat_room = record {
       order =
           subst (RisesFrom 0)
           (sym (clients_stay moves (plays_on number_of frames_of whole) plays.steps b.entries.items new.entries.items
@@ -206,8 +217,8 @@ module _ {D E : Type 0} (faults : D → ℕ) (told : D → Option (List DeviceLo
       belong =
           All-from_recursion (Belongs new.book new.seats.items) new.entries.items
           (all_belong moves (plays_on number_of frames_of whole) number_of frames_of whole b.book new.book b.seats.items
-          new.seats.items clients keeps next_at_rises plays.steps b.entries.items new.entries.items plays.went
-          plays.places
+          new.seats.items clients sessions changed keeps next_at_rises plays.steps b.entries.items new.entries.items
+          plays.went plays.places
           (recursion_from_All (Belongs b.book b.seats.items) b.entries.items order.belong));
       seats = seats;
       book = book;

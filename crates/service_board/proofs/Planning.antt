@@ -1,18 +1,23 @@
 -- What the rows of an Initialize say on a board, one after another.
-use Rattle.std.proofs.Common.{◌≡◌, ℕ, ◌||◌, not, nat_le, List, [], ◌∷◌}
+use Rattle.std.proofs.Common.{◌≡◌, ℕ, ◌||◌, not, List, [], ◌∷◌}
 use Rattle.std.proofs.Common.{◌++◌, length, Bool, true, false, Option, Some, None}
 use Rattle.std.proofs.Common.{refl, sym, ap, ◌∙◌, if◌then◌else◌, is_some, get_or}
 use Rattle.std.proofs.Common.{slice_get, ◌<◌, ◌≤◌, ◌⊎◌, inl, inr, arith}
-use Rattle.std.specs.Option.{option_map, option_map_or}
+use Rattle.std.specs.Option.{option_map_or}
 use Rattle.std.specs.List.{find, list_any, position}
 use Rattle.std.proofs.lemmas.Option.{get_or_from_slice_get, none-some, slice_get_cases}
 use Rattle.std.specs.Vec.{vec_len}
 use Rattle.device_io.specs.DeviceLog.{DeviceLog}
 use Rattle.ca_base.specs.declared.codes.Hr.{Hr}
 use Rattle.ca_base.specs.declared.codes.TheConstants.Hr as hr
-use Rattle.ca_base.specs.declared.limits.TheConstants.{MAX_COUNT, SESSIONS}
+use Rattle.ca_base.specs.declared.ids.EndpointNo.{EndpointNo}
 use Rattle.ca_base.specs.Rows.{Row, first}
+use Rattle.session_manager.specs.declared.session.SessionKey.{SessionKey}
+use Rattle.session_manager.specs.Rows.{join_rows}
+use Rattle.ca_stage.specs.Stage.{BufferData}
 use Rattle.ca_stage.specs.Moves.{stream_at}
+use Rattle.ca_stage.specs.Tally.{Tally}
+use Rattle.ca_machine.specs.declared.state.Client.{Client}
 use Rattle.ca_machine.specs.declared.state.Connection.{Connection}
 use Rattle.ca_machine.specs.declared.state.Endpoint.{Endpoint}
 use Rattle.ca_machine.specs.State.{State, client_of, is_connection, is_endpoint}
@@ -20,27 +25,19 @@ use Rattle.ca_machine.specs.SharedRows.{control_rows, endpoint_of}
 use Rattle.ca_machine.specs.Streams.{
   endpoint_rows,
   has_no_match,
-  if_new,
   initialize_rows,
+  is_cross_process,
   is_faulty,
   is_malformed,
+  joining_rows,
   later_rows,
-  process_of,
-  session_found,
+  session_key,
 }
 use Rattle.buffer_ring.specs.declared.step.Step.{Step}
 use Rattle.service_board.specs.Board.{state_of}
 use Rattle.service_board.specs.Does.{AnyData, Does}
 use Rattle.service_board.specs.Lookups.{FindsEndpoint, Says, is_entry_of}
-use Rattle.service_board.specs.Openings.{
-  argument_rows,
-  arguments,
-  format_rows,
-  opening_plan,
-  process_in,
-  session_in,
-  session_rows,
-}
+use Rattle.service_board.specs.Openings.{argument_rows, arguments, format_rows, key_by, opening_plan}
 use Rattle.service_board.specs.declared.board.Board.{Board}
 use Rattle.service_board.specs.declared.opening.Opening.{Opening as Asked}
 use Rattle.service_board.proofs.Doing.{refused_does}
@@ -66,15 +63,6 @@ any_none test (y ∷ xs) e = by (test y) e (any_none test xs)
     by true h later = absurd (none-some y (sym h))
     by false h later = later h
 
-mapped_none : {X Y : Type 0} (f : X → Y) (o : Option X) → None ≡ option_map f o → o ≡ None
-mapped_none f None e = refl
-mapped_none f (Some x) e = absurd (none-some (f x) e)
-
-mapped_some : {X Y : Type 0} (f : X → Y) (o : Option X) (y : Y) → Some y ≡ option_map f o →
-    (x : X) × (o ≡ Some x)
-mapped_some f None y e = absurd (none-some y (sym e))
-mapped_some f (Some x) y e = (x, refl)
-
 -- ---- the rows of an Initialize's own, as they look its client up
 
 abbrev pub stream_row : Asked → State → List (Row Hr)
@@ -90,44 +78,43 @@ own_format_rows x st =
     ∷ []
 
 abbrev pub own_session_rows : Asked → State → List (Row Hr)
-own_session_rows x st = (
-  if_new (session_found st x.conn.0 (client_of x.conn.0 x.client.0 st) (arguments x))
-      (nat_le SESSIONS (length st.sessions)),
-  hr.SESSIONS_FULL,
-)
-    ∷ (
-      if_new (session_found st x.conn.0 (client_of x.conn.0 x.client.0 st) (arguments x))
-          (nat_le MAX_COUNT st.sessions_made),
-      hr.WORN,
-    )
-    ∷ []
+own_session_rows x st = joining_rows st x.conn.0 (client_of x.conn.0 x.client.0 st) (arguments x)
+
+-- what names a session on an endpoint of this number, by the connection that was looked up
+abbrev key_from : Asked → ℕ → Option Connection → SessionKey
+key_from x endpoint o =
+    if is_cross_process x.flags
+    then record { endpoint = record { 0 = endpoint }; process = 0; guid = x.session; name = 42 ∷ [] }
+    else record {
+      endpoint = record { 0 = endpoint };
+      process = option_map_or (λ c. c.process) o 0;
+      guid = x.session;
+      name = option_map_or (λ c. c.name) o [];
+    }
 
 -- ---- what each row says, by what was found
 
 module _ {D E : Type 0} (b : Board D E) (x : Asked) where
-  pub connected_says : (process : ℕ) → Some process ≡ process_in x.conn.0 b.book →
+  pub connected_says : (from : ℕ) → Some from ≡ position (is_connection x.conn.0) b.book.connections.items →
       Says b (control_rows x.conn.0) None
-  connected_says process e datas tally =
-      let found = mapped_some (λ (c : Connection). c.process) (find (is_connection x.conn.0) b.book.connections.items)
-      process e in
+  connected_says from e datas tally =
+      let f = found_at (is_connection x.conn.0) b.book.connections.items from e in
       ap (λ v. if not v then Some hr.E_HANDLE else None)
-      (any_found (is_connection x.conn.0) b.book.connections.items found.0 found.1)
+      (any_found (is_connection x.conn.0) b.book.connections.items f.member f.found)
 
-  pub unconnected_says : None ≡ process_in x.conn.0 b.book → Says b (control_rows x.conn.0) (Some hr.E_HANDLE)
+  pub unconnected_says : None ≡ position (is_connection x.conn.0) b.book.connections.items →
+      Says b (control_rows x.conn.0) (Some hr.E_HANDLE)
   unconnected_says e datas tally =
       ap (λ v. if not v then Some hr.E_HANDLE else None)
       (any_none (is_connection x.conn.0) b.book.connections.items
-      (mapped_none (λ (c : Connection). c.process) (find (is_connection x.conn.0) b.book.connections.items) e))
+      (none_at (is_connection x.conn.0) b.book.connections.items e))
 
-  -- the process of the connection, in a state
-  pub process_is : (process : ℕ) → Some process ≡ process_in x.conn.0 b.book →
-      option_map_or (λ c. c.process) (find (is_connection x.conn.0) b.book.connections.items) 0 ≡ process
-  process_is process e = by (find (is_connection x.conn.0) b.book.connections.items) e
-    where
-      by : (o : Option Connection) → Some process ≡ option_map (λ (c : Connection). c.process) o →
-          option_map_or (λ c. c.process) o 0 ≡ process
-      by None h = absurd (none-some process (sym h))
-      by (Some c) h = cc
+  -- what names the session, in a state
+  pub key_is : (named : Client) (endpoint : EndpointNo) (c : Connection) → named.endpoint.0 ≡ endpoint.0 →
+      find (is_connection x.conn.0) b.book.connections.items ≡ Some c → (datas : ℕ → BufferData) (tally : Tally) →
+      session_key (state_of datas tally b) x.conn.0 named (arguments x) ≡ key_by x c endpoint
+  key_is named endpoint c on there datas tally =
+      ap (key_from x named.endpoint.0) there ∙ ap (λ n. key_from x n (Some c)) on
 
   pub no_entry : (o : Option ℕ) → o ≡ position (is_entry_of x.client.0) b.entries.items → is_some o ≡ false →
       find (is_entry_of x.client.0) b.entries.items ≡ None
@@ -187,17 +174,13 @@ module _ {D E : Type 0} (b : Board D E) (x : Asked) where
         ∙ ap format_verdict (found.active.found ∙ ap (λ y. Some y) same)
         ∙ says
 
-    pub session_says : (e : Endpoint) → found.active.endpoint ≡ e → (process : ℕ) →
-        Some process ≡ process_in x.conn.0 b.book → (verdict : Option Hr) →
-        first (session_rows (session_in e.endpoint.0 process x.session.0 b.book) b.book) ≡ verdict →
-        Says b (own_session_rows x) verdict
-    session_says e same process there verdict says datas tally =
-        let st : State = state_of datas tally b in
-        ap (λ o. first (session_rows (session_found st x.conn.0 o (arguments x)) b.book)) found.found
-        ∙ ap (λ n. first (session_rows (session_in n (process_of x.conn.0 st) x.session.0 b.book) b.book))
-        (sym found.active.number_is ∙ ap (λ (y : Endpoint). y.endpoint.0) same)
-        ∙ ap (λ p. first (session_rows (session_in e.endpoint.0 p x.session.0 b.book) b.book))
-        (process_is process there)
+    pub session_says : (e : Endpoint) → found.active.endpoint ≡ e → (c : Connection) →
+        find (is_connection x.conn.0) b.book.connections.items ≡ Some c → (verdict : Option Hr) →
+        first (join_rows (key_by x c e.endpoint) b.book.sessions) ≡ verdict → Says b (own_session_rows x) verdict
+    session_says e same c there verdict says datas tally =
+        ap (λ o. first (joining_rows (state_of datas tally b) x.conn.0 o (arguments x))) found.found
+        ∙ ap (λ k. first (join_rows k b.book.sessions))
+        (key_is found.named e.endpoint c (number_read e same) there datas tally)
         ∙ says
 
 -- ---- the rows one after another: the first of each group, and those behind them
@@ -263,13 +246,13 @@ module _ {D E : Type 0} (b : Board D E) (x : Asked) where
   past_session says passes = says_later b (six x) (own_session_rows x) None passes says
 
   -- past the rows before those of the format
-  pub past_five : (process at : ℕ) → Some process ≡ process_in x.conn.0 b.book →
+  pub past_five : (from at : ℕ) → Some from ≡ position (is_connection x.conn.0) b.book.connections.items →
       first (later_rows (arguments x)) ≡ None → FindsEndpoint x.conn.0 x.client.0 b at →
       find (is_entry_of x.client.0) b.entries.items ≡ None → first (argument_rows (arguments x)) ≡ None →
       Says b (five x) None
-  past_five process at connected later found none says =
+  past_five from at connected later found none says =
       past_arguments says (past_stream none (past_endpoint at found
-      (past_later (connected_says b x process connected) later)))
+      (past_later (connected_says b x from connected) later)))
 
   pub at_control : Says b (control_rows x.conn.0) (Some hr.E_HANDLE) → Says b (all_rows x) (Some hr.E_HANDLE)
   at_control says = says_front b (control_rows x.conn.0) (behind_one x) hr.E_HANDLE says

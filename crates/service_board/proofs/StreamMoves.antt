@@ -12,6 +12,7 @@ use Rattle.ca_base.specs.declared.codes.Hr.{Hr}
 use Rattle.ca_base.specs.declared.codes.TheConstants.Hr as hr
 use Rattle.ca_base.specs.declared.limits.TheConstants.{CLIENTS, ENDPOINTS}
 use Rattle.ca_base.specs.Rows.{Row, first}
+use Rattle.volume_stack.specs.Scaling.{unit_gain}
 use Rattle.buffer_ring.specs.declared.step.EndState.{EndState}
 use Rattle.buffer_ring.specs.declared.step.Step.{Step}
 use Rattle.ca_stage.specs.Stage.{BufferData, Stream, is_open, is_open_gate}
@@ -19,6 +20,7 @@ use Rattle.ca_stage.specs.Moves.{StreamMove, of_client, moved, playhead_after, s
 use Rattle.ca_stage.specs.Order.{RisesFrom}
 use Rattle.ca_stage.specs.Tally.{Tally, tally_after}
 use Rattle.ca_stage.proofs.Lists.{map_same}
+use Rattle.session_manager.specs.Sessions.{session_at}
 use Rattle.ca_machine.specs.State.{State, is_endpoint}
 use Rattle.ca_machine.specs.Plan.{Outcome, Plan, granted}
 use Rattle.ca_machine.specs.SharedRows.{stream_plan, with_stream}
@@ -29,7 +31,7 @@ use Rattle.period_engine.specs.Entries.{AreInOrder, IsRested, stream_of, stream_
 use Rattle.period_engine.specs.SubSteps.{IsSameEntry}
 use Rattle.service_board.specs.Board.{book_state, playhead_of, state_of}
 use Rattle.service_board.specs.Does.{Does, Made, after_steps, channels_at, store_at}
-use Rattle.service_board.specs.InOrder.{Belongs, InOrder, IsBook, Seats, next_at}
+use Rattle.service_board.specs.InOrder.{Belongs, InOrder, IsBook, Seats, gains_by, next_at}
 use Rattle.service_board.specs.declared.board.Board.{Board}
 use Rattle.service_board.specs.declared.board.Seat.{Seat}
 use Rattle.service_board.specs.declared.book.Book.{Book}
@@ -69,7 +71,11 @@ belongs_kept book seats a b same before h =
       endpoint = h.endpoint;
       there = ap (λ n. find (is_endpoint n.0) book.endpoints.items) same.endpoint ∙ h.there;
       channels = same.channels ∙ h.channels;
-      gains = same.gains ∙ h.gains;
+      within = subst (All (λ gain. gain ≤ unit_gain)) (sym same.gains) h.within;
+      gains = λ fresh.
+          same.gains
+          ∙ h.gains fresh
+          ∙ ap (λ s. gains_by h.client.levels (session_at s.0 book.sessions.list)) (sym same.session);
       renders = same.kind ∙ h.renders;
       position = omega arith;
     }

@@ -8,8 +8,8 @@ use Rattle.wave_format.specs.declared.format.FormatFault.{FormatFault}
 use Rattle.wave_format.specs.Format.{format_at, spelled, unless_fault}
 use Rattle.ca_machine.specs.Streams.{fault_of, matches}
 use Rattle.service_board.specs.Formats.{TellsSupport}
-use Rattle.service_board.specs.declared.payload.Payload.{Payload}
-use Rattle.service_board.specs.declared.payload.Payload.TheVariants as payload
+use Rattle.reply_payload.specs.declared.payload.Payload.{Payload}
+use Rattle.reply_payload.specs.declared.payload.Payload.TheVariants as payload
 
 -- bytes that spell a format have no fault
 spells : (v : Option ℕ) (s format : Format) → Ok format ≡ unless_fault v s → (v ≡ None) × (s ≡ format)

@@ -21,10 +21,10 @@ book_state book stage tally = record {
   connections = book.connections.items;
   clients = book.clients.items;
   endpoints = book.endpoints.items;
-  sessions = book.sessions.items;
+  sessions = book.sessions.list;
   last_endpoint = book.last_endpoint;
   clients_made = book.clients_made;
-  sessions_made = book.sessions_made;
+  sessions_made = book.sessions.made;
 }
 
 -- the stage of seats and entries, with the data of each client's stream

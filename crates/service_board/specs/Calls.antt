@@ -2,7 +2,7 @@
 use Rattle.ca_model.specs.declared.event.Call.{Call}
 use Rattle.ca_model.specs.declared.event.Call.TheVariants as call
 
--- a call that asks for no memory, needs nothing of the client's side, and gives no frame a fate
+-- a call that asks for no memory, needs nothing of the client's side, gives no frame a fate, and answers a few bytes
 abbrev pub IsPlainCall : Call → Type 0
 IsPlainCall (call.Release c) = ⊥
 IsPlainCall (call.Initialize c share flags duration period format session) = ⊥
@@ -10,4 +10,22 @@ IsPlainCall (call.GetCurrentPadding c) = ⊥
 IsPlainCall (call.Reset c) = ⊥
 IsPlainCall (call.GetBuffer c frames) = ⊥
 IsPlainCall (call.ReleaseBuffer c frames flags bytes) = ⊥
+IsPlainCall (call.EnumSessions e) = ⊥
+IsPlainCall (call.GetSession s) = ⊥
 IsPlainCall _ = Unit {0}
+
+-- a call whose payload is a few bytes
+abbrev pub IsShortCall : Call → Type 0
+IsShortCall (call.EnumSessions e) = ⊥
+IsShortCall (call.GetSession s) = ⊥
+IsShortCall _ = Unit {0}
+
+-- a call that changes a session
+abbrev pub IsSessionCall : Call → Type 0
+IsSessionCall (call.SetMaster s level context) = Unit {0}
+IsSessionCall (call.SetMute s mute context) = Unit {0}
+IsSessionCall (call.SetChannel s channel level context) = Unit {0}
+IsSessionCall (call.SetDisplayName s context text) = Unit {0}
+IsSessionCall (call.SetIconPath s context text) = Unit {0}
+IsSessionCall (call.SetGrouping s grouping context) = Unit {0}
+IsSessionCall _ = ⊥

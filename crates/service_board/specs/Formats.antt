@@ -5,8 +5,8 @@ use Rattle.ca_base.specs.declared.codes.TheConstants.Hr as hr
 use Rattle.wave_format.specs.declared.format.Format.{Format}
 use Rattle.wave_format.specs.Format.{spelled}
 use Rattle.ca_machine.specs.Streams.{is_faulty, is_malformed, matches}
-use Rattle.service_board.specs.declared.payload.Payload.{Payload}
-use Rattle.service_board.specs.declared.payload.Payload.TheVariants as payload
+use Rattle.reply_payload.specs.declared.payload.Payload.{Payload}
+use Rattle.reply_payload.specs.declared.payload.Payload.TheVariants as payload
 
 -- nothing more if an endpoint of this format takes that of these bytes, or the endpoint's own
 abbrev pub support_payload : Format → List ℕ → Payload

@@ -1,18 +1,28 @@
 -- What holds of a board between events (this project's own).
-use Rattle.std.specs.Prelude.{◌≡◌, ℕ, ◌*◌, ◌≤◌, ◌==◌, List, [], ◌∷◌, length, map, Bool, Some}
-use Rattle.std.specs.List.{All, AllZip, find}
+use Rattle.std.specs.Prelude.{◌≡◌, ℕ, ◌*◌, ◌≤◌, ◌==◌, nat_eq, List, [], ◌∷◌, length, map, Bool, false, Option, Some}
+use Rattle.std.specs.List.{All, AllZip, IsDistinct, find}
 use Rattle.std.specs.Option.{option_map_or}
 use Rattle.std.specs.Vec.{vec_capacity}
 use Rattle.ca_base.specs.declared.ids.StreamKind.TheVariants.{Render}
-use Rattle.ca_base.specs.declared.limits.TheConstants.{CLIENTS, CONNECTIONS, ENDPOINTS, SESSIONS, MAX_COUNT}
+use Rattle.ca_base.specs.declared.limits.TheConstants.{
+  CLIENTS,
+  CONNECTIONS,
+  ENDPOINTS,
+  MAX_CONNECTION_NAME,
+  MAX_COUNT,
+  MAX_LEVEL,
+}
 use Rattle.wave_format.specs.Format.{IsValid}
 use Rattle.volume_stack.specs.Scaling.{unit_gain}
 use Rattle.buffer_ring.specs.declared.step.EndState.{EndState}
 use Rattle.ca_stage.specs.Order.{RisesFrom}
+use Rattle.session_manager.specs.declared.session.Session.{Session}
+use Rattle.session_manager.specs.Sessions.{session_at}
 use Rattle.ca_machine.specs.declared.state.Client.{Client}
+use Rattle.ca_machine.specs.declared.state.Connection.{Connection}
 use Rattle.ca_machine.specs.declared.state.Endpoint.{Endpoint}
 use Rattle.ca_machine.specs.State.{is_endpoint, live_clients}
-use Rattle.ca_machine.specs.Periods.{period_frames}
+use Rattle.ca_machine.specs.Periods.{gain_in, period_frames}
 use Rattle.period_engine.specs.declared.entry.StreamEntry.{StreamEntry}
 use Rattle.period_engine.specs.Entries.{AreInOrder, IsRested}
 use Rattle.service_board.specs.declared.board.Board.{Board}
@@ -24,18 +34,30 @@ pub record HasRooms (b : Book) : Type 0 where
   pub connections : CONNECTIONS ≤ vec_capacity b.connections
   pub clients : CLIENTS ≤ vec_capacity b.clients
   pub endpoints : ENDPOINTS ≤ vec_capacity b.endpoints
-  pub sessions : SESSIONS ≤ vec_capacity b.sessions
 
--- numbers of clients and endpoints rise, up to the last one given, and counts are in range
+-- a connection has a number that there may be, and a name that fits
+pub record IsOpen (c : Connection) : Type 0 where
+  pub least : 1 ≤ c.conn.0
+  pub most : c.conn.0 ≤ CONNECTIONS
+  pub name : length c.name ≤ MAX_CONNECTION_NAME
+
+-- levels of channels are in range
+abbrev pub HasLevels : Client → Type 0
+HasLevels c = All (λ level. level ≤ MAX_LEVEL) c.levels
+
+-- no two connections have one number; numbers of clients and endpoints rise, up to the last one given; and counts and
+-- levels are in range
 pub record IsBook (b : Book) : Type 0 where
   pub rooms : HasRooms b
+  pub apart : IsDistinct nat_eq (map (λ c. c.conn.0) b.connections.items)
+  pub opens : All IsOpen b.connections.items
   pub clients : RisesFrom 0 (live_clients b.clients.items)
   pub few_clients : length b.clients.items ≤ CLIENTS
   pub made : All (λ c. c.client.0 ≤ b.clients_made) b.clients.items
   pub clients_made : b.clients_made ≤ MAX_COUNT
   pub endpoints : RisesFrom 0 (map (λ e. e.endpoint.0) b.endpoints.items)
   pub added : All (λ e. e.endpoint.0 ≤ b.last_endpoint) b.endpoints.items
-  pub sessions_made : b.sessions_made ≤ MAX_COUNT
+  pub levels : All HasLevels b.clients.items
 
 -- a seat is that of an endpoint: its next place is in range, and a period fits in its scratch
 pub record Seats (seat : Seat) (e : Endpoint) : Type 0 where
@@ -52,8 +74,14 @@ is_seat number s = s.endpoint.0 == number
 abbrev pub next_at : ℕ → List Seat → ℕ
 next_at number seats = option_map_or (λ s. s.next) (find (is_seat number) seats) 0
 
--- an entry is that of a live client, on the client's endpoint, with the endpoint's channels and gains that change
--- nothing; its stream renders, and its position isn't beyond the endpoint's next place
+-- the gains of a stream's four channels, by its levels and its session
+abbrev pub gains_by : List ℕ → Option Session → List ℕ
+gains_by levels session =
+    gain_in levels session 0 ∷ gain_in levels session 1 ∷ gain_in levels session 2 ∷ gain_in levels session 3 ∷ []
+
+-- an entry is that of a live client, on the client's endpoint, with the endpoint's channels; its gains are in range,
+-- and unless levels have changed they are those of the levels; its stream renders, and its position isn't beyond the
+-- endpoint's next place
 pub record Belongs {E : Type 0} (book : Book) (seats : List Seat) (e : StreamEntry E) : Type 0 where
   pub client : Client
   pub live : find (λ c. c.client.0 == e.client.0) book.clients.items ≡ Some client
@@ -61,7 +89,8 @@ pub record Belongs {E : Type 0} (book : Book) (seats : List Seat) (e : StreamEnt
   pub endpoint : Endpoint
   pub there : find (is_endpoint e.endpoint.0) book.endpoints.items ≡ Some endpoint
   pub channels : e.channels ≡ endpoint.format.channels
-  pub gains : e.gains ≡ unit_gain ∷ unit_gain ∷ unit_gain ∷ unit_gain ∷ []
+  pub within : All (λ gain. gain ≤ unit_gain) e.gains
+  pub gains : book.levels_changed ≡ false → e.gains ≡ gains_by client.levels (session_at e.session.0 book.sessions.list)
   pub renders : e.kind ≡ Render
   pub position : e.position ≤ next_at e.endpoint.0 seats
 

@@ -7,8 +7,8 @@ use Rattle.ca_base.specs.declared.ids.Reason.TheVariants.{Released}
 use Rattle.buffer_ring.specs.declared.step.Deed.TheVariants as deed
 use Rattle.buffer_ring.specs.declared.step.Step.{Step}
 use Rattle.buffer_ring.specs.declared.step.Step.TheVariants as step
+use Rattle.session_manager.specs.declared.session.Session.{Session}
 use Rattle.ca_machine.specs.declared.state.Client.{Client}
-use Rattle.ca_machine.specs.declared.state.Session.{Session}
 use Rattle.period_engine.specs.declared.entry.StreamEntry.{StreamEntry}
 use Rattle.service_board.specs.Does.{store_at}
 use Rattle.service_board.specs.declared.board.Board.{Board}
@@ -23,7 +23,7 @@ is_of_live clients e = is_live clients e.client.0
 
 -- one of these entries is of a stream of this session
 abbrev pub is_in_use : {E : Type 0} → List (StreamEntry E) → Session → Bool
-is_in_use entries s = list_any (λ e. e.session.0 == s.session.0) entries
+is_in_use entries s = list_any (λ e. e.session.0 == s.no.0) entries
 
 -- one step: the gate was open and was closed, since the client is released
 abbrev pub ClosesOnce : List Step → Type 0
@@ -54,10 +54,13 @@ pub record Keeps {E : Type 0} (moves : E → List Step → E → Type 0) (client
 -- streams of no live client go, and then sessions of no stream; the rest is as it was
 pub record Forgets {D E : Type 0} (moves : E → List Step → E → Type 0) (old new : Board D E) : Type 0 where
   pub streams : Keeps moves old.book.clients.items old.entries.items new.entries.items
-  pub sessions : new.book.sessions.items ≡ filter (is_in_use new.entries.items) old.book.sessions.items
-  pub rest : new ≡ record old { entries = new.entries; book = record (old.book) { sessions = new.book.sessions } }
+  pub sessions : new.book.sessions.list ≡ filter (is_in_use new.entries.items) old.book.sessions.list
+  pub made : new.book.sessions.made ≡ old.book.sessions.made
+  pub rest : new ≡ record old {
+    entries = new.entries;
+    book = record (old.book) { sessions = new.book.sessions; levels_changed = true };
+  }
   pub room : vec_capacity new.entries ≡ vec_capacity old.entries
-  pub session_room : vec_capacity new.book.sessions ≡ vec_capacity old.book.sessions
 
 -- each store that was open and is gone was closed
 abbrev pub AreClosed : {E : Type 0} → (E → List Step → E → Type 0) → List (StreamEntry E) → List (StreamEntry E)

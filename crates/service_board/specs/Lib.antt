@@ -1,7 +1,7 @@
 pub mod Board
 pub mod InOrder
+pub mod Gains
 pub mod Does
-pub mod Answers
 pub mod Calls
 pub mod Lookups
 pub mod New

@@ -1,6 +1,7 @@
 -- A board on which nothing is yet (this project's own).
 use Rattle.std.specs.Prelude.{◌≡◌, ℕ, []}
 use Rattle.buffer_ring.specs.declared.step.EndState.{EndState}
+use Rattle.session_manager.specs.Sessions.{no_sessions}
 use Rattle.ca_stage.specs.Stage.{BufferData}
 use Rattle.ca_stage.specs.Tally.{no_tally}
 use Rattle.ca_machine.specs.State.{empty_state}
@@ -15,10 +16,9 @@ pub record IsEmptyBook (b : Book) : Type 0 where
   pub connections : b.connections.items ≡ []
   pub clients : b.clients.items ≡ []
   pub endpoints : b.endpoints.items ≡ []
-  pub sessions : b.sessions.items ≡ []
+  pub sessions : b.sessions ≡ no_sessions
   pub last_endpoint : b.last_endpoint ≡ 0
   pub clients_made : b.clients_made ≡ 0
-  pub sessions_made : b.sessions_made ≡ 0
 
 -- a board in order, over these devices and of no stream, that stands for the empty state, whatever the data
 pub record IsNewBoard {D E : Type 0} (state : E → EndState) (devices : D) (b : Board D E) : Type 0 where

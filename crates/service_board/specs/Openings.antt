@@ -1,40 +1,41 @@
 -- What an Initialize asks for and opens, as the code has it (this project's own).
-use Rattle.std.specs.Prelude.{◌≡◌, ℕ, ◌+◌, ◌<◌, ◌≤◌, ◌||◌, not, nat_le}
-use Rattle.std.specs.Prelude.{nat_lt, List, [], ◌∷◌, ◌++◌, length, Bool, false, Option}
-use Rattle.std.specs.Prelude.{Some, None}
-use Rattle.std.specs.Option.{option_map}
+use Rattle.std.specs.Prelude.{◌≡◌, ℕ, ◌≤◌, ◌||◌, not, nat_lt, List, [], ◌∷◌, Bool, false, true, Option, Some, None}
+use Rattle.std.specs.Prelude.{if◌then◌else◌}
 use Rattle.std.specs.List.{find, insert}
-use Rattle.std.specs.Vec.{vec_capacity}
 use Rattle.ca_base.specs.declared.codes.Hr.{Hr}
 use Rattle.ca_base.specs.declared.codes.TheConstants.Hr as hr
 use Rattle.ca_base.specs.declared.ids.Dir.TheVariants as dir
 use Rattle.ca_base.specs.declared.ids.Gate.TheVariants as gate
 use Rattle.ca_base.specs.declared.ids.StreamKind.TheVariants as kind
+use Rattle.ca_base.specs.declared.ids.EndpointNo.{EndpointNo}
 use Rattle.ca_base.specs.declared.ids.SessionNo.{SessionNo}
-use Rattle.ca_base.specs.declared.limits.TheConstants.{MAX_COUNT, MAX_STORE_WORDS, SESSIONS, SHARED_PERIOD}
+use Rattle.ca_base.specs.declared.limits.TheConstants.{MAX_STORE_WORDS, SHARED_PERIOD}
 use Rattle.ca_base.specs.declared.values.TheConstants.{SHARE_EXCLUSIVE}
-use Rattle.ca_base.specs.Rows.{Row}
+use Rattle.ca_base.specs.Rows.{Row, first}
 use Rattle.wave_format.specs.declared.format.Format.{Format}
 use Rattle.wave_format.specs.Format.{IsValid, frames_of_time, spelled}
 use Rattle.volume_stack.specs.Scaling.{unit_gain}
 use Rattle.buffer_ring.specs.declared.step.EndState.{EndState}
+use Rattle.session_manager.specs.declared.session.SessionKey.{SessionKey}
+use Rattle.session_manager.specs.Rows.{join_rows}
+use Rattle.session_manager.specs.Sessions.{joined, number_joined}
 use Rattle.ca_stage.specs.Stage.{BufferData, no_data}
 use Rattle.ca_machine.specs.declared.state.Client.{Client}
 use Rattle.ca_machine.specs.declared.state.Endpoint.{Endpoint}
-use Rattle.ca_machine.specs.declared.state.Session.{Session}
-use Rattle.ca_machine.specs.State.{State, is_client_of, is_connection, is_endpoint, is_session}
+use Rattle.ca_machine.specs.declared.state.Connection.{Connection}
+use Rattle.ca_machine.specs.State.{State, is_client_of, is_connection, is_endpoint}
 use Rattle.ca_machine.specs.Plan.{Plan}
 use Rattle.ca_machine.specs.Streams.{
   Opening,
   has_other_flag,
-  if_new,
   initialize_plan,
   initialize_rows,
+  is_cross_process,
   is_faulty,
+  is_kept,
   is_malformed,
   is_too_long,
   matches,
-  new_session,
   shared_buffer,
 }
 use Rattle.period_engine.specs.declared.entry.StreamEntry.{StreamEntry}
@@ -108,29 +109,15 @@ is_above client e = nat_lt client e.client.0
 abbrev pub opening_plan : Asked → State → Plan
 opening_plan x st = initialize_plan st x.conn.0 x.client.0 (arguments x)
 
--- the process of an open connection
-abbrev pub process_in : ℕ → Book → Option ℕ
-process_in conn book = option_map (λ c. c.process) (find (is_connection conn) book.connections.items)
-
--- the session of an endpoint, a process and a GUID, if it is there
-abbrev pub session_in : ℕ → ℕ → ℕ → Book → Option Session
-session_in endpoint process guid book = find (is_session endpoint process guid) book.sessions.items
-
--- a new session is needed, and can't be made
-abbrev pub session_rows : Option Session → Book → List (Row Hr)
-session_rows session book =
-    (if_new session (nat_le SESSIONS (length book.sessions.items)), hr.SESSIONS_FULL)
-    ∷ (if_new session (nat_le MAX_COUNT book.sessions_made), hr.WORN)
-    ∷ []
-
--- a number of a session that is there, or there is none and one may be made
-abbrev pub HasSession : Option Session → Book → Option SessionNo → Type 0
-HasSession (Some session) book number = number ≡ Some session.session
-HasSession None book number =
-    (number ≡ None) × (length book.sessions.items < SESSIONS) × (book.sessions_made < MAX_COUNT)
+-- what names the session of a stream that a call of this connection opens on an endpoint
+abbrev pub key_by : Asked → Connection → EndpointNo → SessionKey
+key_by x c endpoint =
+    if is_cross_process x.flags
+    then record { endpoint = endpoint; process = 0; guid = x.session; name = 42 ∷ [] }
+    else record { endpoint = endpoint; process = c.process; guid = x.session; name = c.name }
 
 -- what an Initialize opens that no row but want of memory refuses: the client of the call, which has no stream yet, on
--- its endpoint, which has the format; and the process and the session that its rows found
+-- its endpoint, which has the format; and what names the session, which its connection gives
 pub record Plans {D E : Type 0} (x : Asked) (b : Board D E) (plan : OpeningPlan) : Type 0 where
   pub named : Client
   pub found : find (is_client_of x.conn.0 x.client.0) b.book.clients.items ≡ Some named
@@ -139,12 +126,14 @@ pub record Plans {D E : Type 0} (x : Asked) (b : Board D E) (plan : OpeningPlan)
   pub endpoint : Endpoint
   pub there : find (is_endpoint plan.endpoint.0) b.book.endpoints.items ≡ Some endpoint
   pub fresh : find (is_entry_of x.client.0) b.entries.items ≡ None
-  pub process : process_in x.conn.0 b.book ≡ Some plan.process
+  pub connection : Connection
+  pub connected : find (is_connection x.conn.0) b.book.connections.items ≡ Some connection
+  pub key : plan.key ≡ key_by x connection plan.endpoint
   pub format : HasFormat endpoint.format x plan.format
   pub buffer : plan.buffer ≡ shared_buffer plan.format.rate x.duration
   pub some : 1 ≤ plan.buffer
   pub most : plan.buffer ≤ MAX_STORE_WORDS
-  pub session : HasSession (session_in plan.endpoint.0 plan.process x.session.0 b.book) b.book plan.session
+  pub joins : first (join_rows plan.key b.book.sessions) ≡ None
   pub says : Says b (λ st. initialize_rows st x.conn.0 x.client.0 (arguments x)) None
 
 -- the engine's end of a new store of this size: it renders, its gate is open, and nothing was seen there
@@ -155,18 +144,11 @@ IsNewStore state cap store = state store ≡ record { cap = cap; dir = dir.Rende
 abbrev pub IsFresh : ℕ → (ℕ → BufferData) → Type 0
 IsFresh client datas = datas client ≡ no_data
 
--- a new session stands last in the book, and nothing else is new but the count
-pub record OpensSession (x : Asked) (plan : OpeningPlan) (old : Book) (session : ℕ) (new : Book) : Type 0 where
-  pub number : session ≡ old.sessions_made + 1
-  pub sessions :
-      new.sessions.items ≡ old.sessions.items ++ new_session session plan.endpoint.0 plan.process x.session.0 ∷ []
-  pub room : vec_capacity old.sessions ≤ vec_capacity new.sessions
-  pub rest : new ≡ record old { sessions = new.sessions; sessions_made = session }
-
--- a stream joins the session that was found, or a new one
-abbrev pub Joins : Option SessionNo → Asked → OpeningPlan → Book → SessionNo → Book → Type 0
-Joins (Some found) x plan old session new = (session ≡ found) × (new ≡ old)
-Joins None x plan old session new = OpensSession x plan old session.0 new
+-- a stream joins its session, which is a new one if there is none, and gains are to be computed
+pub record Joins (x : Asked) (plan : OpeningPlan) (old : Book) (session : SessionNo) (new : Book) : Type 0 where
+  pub number : session.0 ≡ number_joined plan.key old.sessions
+  pub sessions : new.sessions ≡ joined plan.key None (is_kept x.flags) plan.format.channels old.sessions
+  pub rest : new ≡ record old { sessions = new.sessions; levels_changed = true }
 
 -- the entries with that of a stream as it is opened, in the store that was given
 pub record Enters {E : Type 0} (x : Asked) (plan : OpeningPlan) (given : Option E) (old new : List (StreamEntry E))

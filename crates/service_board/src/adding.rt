@@ -4,13 +4,13 @@ ghost use Rattle.std.specs.Prelude.{◌≡◌, ◌||◌, not, nat_le, nat_lt, If
 ghost use Rattle.std.specs.Str.{is_utf8};
 ghost use Rattle.wave_format.specs.Format.{format_at};
 ghost use Rattle.ca_machine.specs.Devices.{add_plan, add_rows};
-ghost use Rattle.service_board.specs.Answers.{code_of, payload_of};
+ghost use Rattle.reply_payload.specs.Answers.{code_of, payload_of};
 ghost use Rattle.service_board.specs.Does.{AnyData, Does};
 ghost use Rattle.service_board.specs.InOrder.{InOrder};
 ghost use Rattle.service_board.specs.Lookups.{Says};
 
 use crate::periods::period_frames;
-use crate::{Board, Book, Payload, Seat};
+use crate::{Board, Book, Seat};
 use buffer_ring::EngineSide;
 use ca_base::limits::ENDPOINTS;
 use ca_base::values::{FLOW_CAPTURE, STATE_ACTIVE};
@@ -18,6 +18,7 @@ use ca_base::{EndpointNo, Flow, Hr, Text};
 use ca_machine::Endpoint;
 use device_io::Devices;
 use period_engine::Block;
+use reply_payload::Payload;
 use std::alloc::Global;
 use wave_format::{Format, read_format};
 

@@ -4,8 +4,9 @@ ghost use Rattle.std.specs.Prelude.{IfOk};
 ghost use Rattle.service_board.specs.New.{IsEmptyBook};
 
 use ca_base::NoMemory;
-use ca_base::limits::{CLIENTS, CONNECTIONS, ENDPOINTS, SESSIONS};
-use ca_machine::{Client, Connection, Endpoint, Session};
+use ca_base::limits::{CLIENTS, CONNECTIONS, ENDPOINTS};
+use ca_machine::{Client, Connection, Endpoint};
+use session_manager::SessionBook;
 use std::alloc::Global;
 
 /// Connections, clients, endpoints and sessions. The lists stand in the order in which their things came.
@@ -14,12 +15,13 @@ pub struct Book {
     pub connections: Vec<Connection>,
     pub clients: Vec<Client>,
     pub endpoints: Vec<Endpoint>,
-    pub sessions: Vec<Session>,
+    pub sessions: SessionBook,
     /// The greatest endpoint number ever added, 0 if none was.
     pub last_endpoint: u32,
-    /// How many clients and sessions were ever made.
+    /// How many clients were ever made.
     pub clients_made: u64,
-    pub sessions_made: u64,
+    /// Whether a level was set, or a session came or went, since the gains of the entries were computed.
+    pub levels_changed: bool,
 }
 
 impl Book {
@@ -31,10 +33,10 @@ impl Book {
             connections: Vec::with_capacity(alloc, CONNECTIONS as usize)?,
             clients: Vec::with_capacity(alloc, CLIENTS)?,
             endpoints: Vec::with_capacity(alloc, ENDPOINTS)?,
-            sessions: Vec::with_capacity(alloc, SESSIONS)?,
+            sessions: SessionBook::new(alloc)?,
             last_endpoint: 0,
             clients_made: 0,
-            sessions_made: 0,
+            levels_changed: false,
         })
     }
 }

@@ -2,16 +2,18 @@
 
 ghost use Rattle.std.specs.Prelude.{None};
 ghost use Rattle.ca_machine.specs.Step.{call_plan, unlisted_call_plan, unlisted_device_plan};
-ghost use Rattle.service_board.specs.Answers.{code_of, payload_of};
-ghost use Rattle.service_board.specs.Calls.{IsPlainCall};
+ghost use Rattle.reply_payload.specs.Answers.{code_of, payload_of};
+ghost use Rattle.service_board.specs.Calls.{IsPlainCall, IsSessionCall};
 ghost use Rattle.service_board.specs.Does.{AnyData, Does};
 ghost use Rattle.service_board.specs.InOrder.{InOrder};
 
-use crate::{Board, Payload};
+use crate::Board;
 use buffer_ring::EngineSide;
 use ca_base::{ConnNo, Hr};
 use ca_model::Call;
 use device_io::Devices;
+use reply_payload::Payload;
+use session_manager::Change;
 
 impl<D: Devices, E: EngineSide> Board<D, E> {
     /// A call whose code isn't listed.
@@ -29,6 +31,42 @@ impl<D: Devices, E: EngineSide> Board<D, E> {
             (code_of result) (payload_of result) }
     {
         Err(Hr::E_NOTIMPL)
+    }
+
+    /// A call that changes a session.
+    fn session_call(&mut self, conn: ConnNo, call: &Call) -> Result<Payload, Hr>
+        requires changes { IsSessionCall call.now }
+        requires order { InOrder E.state self.old }
+        ensures does { Does D.faults D.told E.moves None AnyData self.old self.new
+            (λ st. call_plan st conn.0 call.now) (code_of result) (payload_of result) }
+        ensures order { InOrder E.state self.new }
+    {
+        match call {
+            Call::SetMaster { session, level, .. } => {
+                self.set_session(conn, *session, &Change::Level(*level))
+            }
+            Call::SetMute { session, mute, .. } => {
+                self.set_session(conn, *session, &Change::Mute(*mute))
+            }
+            Call::SetChannel {
+                session,
+                channel,
+                level,
+                ..
+            } => self.set_session(conn, *session, &Change::Channel(*channel, *level)),
+            Call::SetDisplayName { session, text, .. } => {
+                self.set_session(conn, *session, &Change::Display(*text))
+            }
+            Call::SetIconPath { session, text, .. } => {
+                self.set_session(conn, *session, &Change::Icon(*text))
+            }
+            Call::SetGrouping {
+                session,
+                grouping,
+                ..
+            } => self.set_session(conn, *session, &Change::Grouping(*grouping)),
+            _ => unreachable!(),
+        }
     }
 
     /// A call that asks for no memory, needs nothing of the client's side, and gives no frame a fate.
@@ -54,13 +92,29 @@ impl<D: Devices, E: EngineSide> Board<D, E> {
             Call::Stop { client } => self.stop(conn, *client),
             Call::GetService { client, service } => self.get_service(conn, *client, *service),
             Call::GetPosition { client } => self.get_position(conn, *client),
+            Call::GetStreamLevel { client, channel } => {
+                self.get_stream_level(conn, *client, *channel)
+            }
+            Call::SetStreamLevel {
+                client,
+                channel,
+                level,
+            } => self.set_stream_level(conn, *client, *channel, *level),
+            Call::SetMaster { .. }
+            | Call::SetMute { .. }
+            | Call::SetChannel { .. }
+            | Call::SetDisplayName { .. }
+            | Call::SetIconPath { .. }
+            | Call::SetGrouping { .. } => self.session_call(conn, call),
             Call::Other { .. } => self.unlisted_call(conn),
             Call::Release { .. }
             | Call::Initialize { .. }
             | Call::GetCurrentPadding { .. }
             | Call::Reset { .. }
             | Call::GetBuffer { .. }
-            | Call::ReleaseBuffer { .. } => unreachable!(),
+            | Call::ReleaseBuffer { .. }
+            | Call::EnumSessions { .. }
+            | Call::GetSession { .. } => unreachable!(),
         }
     }
 }

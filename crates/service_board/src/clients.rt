@@ -14,18 +14,19 @@ ghost use Rattle.ca_machine.specs.Clients.{
   open_rows,
 };
 ghost use Rattle.ca_machine.specs.State.{is_connection};
-ghost use Rattle.service_board.specs.Answers.{code_of, payload_of};
+ghost use Rattle.reply_payload.specs.Answers.{code_of, payload_of};
 ghost use Rattle.service_board.specs.Does.{AnyData, Does};
 ghost use Rattle.service_board.specs.InOrder.{InOrder};
 ghost use Rattle.service_board.specs.Lookups.{Says};
 
-use crate::{Board, Book, Payload};
+use crate::{Board, Book};
 use buffer_ring::EngineSide;
-use ca_base::limits::{CLIENTS, CONNECTIONS, MAX_CONNECTION_NAME, MAX_COUNT};
+use ca_base::limits::{CLIENTS, CONNECTIONS, MAX_CONNECTION_NAME, MAX_COUNT, MAX_LEVEL};
 use ca_base::values::{ROLE_COMMUNICATIONS, ROLE_NONE, STATE_ACTIVE};
 use ca_base::{ClientNo, ConnNo, EndpointNo, Hr, Text};
 use ca_machine::{Client, Connection};
 use device_io::Devices;
+use reply_payload::Payload;
 
 fn is_name_byte(byte: u8) -> bool
     ensures { result ≡ is_name_byte byte }
@@ -57,13 +58,6 @@ fn is_role(role: u8) -> bool
 }
 
 impl Book {
-    /// Whether another connection is open.
-    fn has_other_connection(&self, conn: ConnNo) -> bool
-        ensures { result ≡ list_any (λ c. not (is_connection conn.0 c)) self.now.connections.items }
-    {
-        self.connections.iter().any(|c| c.conn != conn)
-    }
-
     /// Whether a connection that is to be opened has a wrong number, is open, or has no process or a wrong name.
     fn is_wrong_open(&self, conn: ConnNo, process: u32, name: &Text) -> bool
         ensures { result ≡ (not (nat_le 1 conn.0 && nat_le conn.0 CONNECTIONS)
@@ -80,9 +74,6 @@ impl<D, E: EngineSide> Board<D, E> {
     fn check_open(&self, conn: ConnNo, process: u32, name: &Text) -> Result<(), Hr>
         ensures { Says self.now (λ st. open_rows st conn.0 process name.now) (result_err result) }
     {
-        if self.book.has_other_connection(conn) {
-            return Err(Hr::E_NOTIMPL);
-        }
         if self.book.is_wrong_open(conn, process, name) {
             return Err(Hr::E_INVALIDARG);
         }
@@ -147,6 +138,7 @@ impl<D: Devices, E: EngineSide> Board<D, E> {
             conn,
             endpoint,
             role,
+            levels: [MAX_LEVEL; 4],
         };
         match self.book.clients.push(client) {
             Ok(()) => {

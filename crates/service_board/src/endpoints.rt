@@ -4,6 +4,7 @@ ghost use Rattle.std.specs.Prelude.{◌≡◌, IfErr, IfOk, MatchOption, Some, N
 ghost use Rattle.std.specs.List.{find};
 ghost use Rattle.ca_machine.specs.State.{is_endpoint};
 ghost use Rattle.ca_machine.specs.Streams.{endpoint_rows};
+ghost use Rattle.service_board.specs.InOrder.{InOrder};
 ghost use Rattle.service_board.specs.Lookups.{FindsEndpoint, IsActiveAt, LacksActive, Says, is_disconnected};
 
 use crate::{Board, Book};
@@ -27,6 +28,7 @@ impl Book {
 impl<D, E: EngineSide> Board<D, E> {
     /// Whether a client has a stream that was disconnected.
     pub fn is_disconnected(&self, client: ClientNo) -> bool
+        requires order { InOrder E.state self.now }
         ensures { result ≡ is_disconnected client.0 self.now.entries.items }
     {
         let Some(at) = self.entry_place(client) else {
@@ -41,6 +43,7 @@ impl<D, E: EngineSide> Board<D, E> {
     /// The place in the book of the endpoint of a call's client. The client is a live one of the connection, its stream
     /// wasn't disconnected, and the endpoint is ACTIVE.
     pub fn valid_endpoint(&self, conn: ConnNo, client: ClientNo) -> Result<usize, Hr>
+        requires order { InOrder E.state self.now }
         ensures refused { IfErr result (λ code. Says self.now (λ st. endpoint_rows st conn.0 client.0) (Some code)) }
         ensures found { IfOk result (FindsEndpoint conn.0 client.0 self.now) }
     {

@@ -2,16 +2,18 @@
 
 ghost use Rattle.std.specs.Prelude.{None};
 ghost use Rattle.ca_machine.specs.Streams.{get_device_period_plan, get_mix_format_plan, is_format_supported_plan};
-ghost use Rattle.service_board.specs.Answers.{code_of, payload_of};
+ghost use Rattle.reply_payload.specs.Answers.{code_of, payload_of};
 ghost use Rattle.service_board.specs.Does.{AnyData, Does};
 ghost use Rattle.service_board.specs.Formats.{TellsSupport};
+ghost use Rattle.service_board.specs.InOrder.{InOrder};
 
-use crate::{Board, Payload};
+use crate::Board;
 use buffer_ring::EngineSide;
 use ca_base::limits::{MIN_EXCLUSIVE_PERIOD, SHARED_PERIOD};
 use ca_base::values::SHARE_EXCLUSIVE;
 use ca_base::{ClientNo, ConnNo, Hr};
 use device_io::Devices;
+use reply_payload::Payload;
 use wave_format::{Format, read_format};
 
 /// What a shared stream of these bytes' format gets on an endpoint of this one: nothing more if the endpoint takes it,
@@ -38,6 +40,7 @@ fn support(mix: &Format, bytes: &[u8]) -> Result<Payload, Hr>
 impl<D: Devices, E: EngineSide> Board<D, E> {
     /// IAudioClient::GetMixFormat: the endpoint's format.
     pub fn get_mix_format(&self, conn: ConnNo, client: ClientNo) -> Result<Payload, Hr>
+        requires order { InOrder E.state self.now }
         ensures does { Does D.faults D.told E.moves None AnyData self.now self.now
             (λ st. get_mix_format_plan st conn.0 client.0) (code_of result) (payload_of result) }
     {
@@ -49,6 +52,7 @@ impl<D: Devices, E: EngineSide> Board<D, E> {
     /// IAudioClient::GetDevicePeriod: the period of shared streams, and the least one of exclusive streams, in units of
     /// 100 ns.
     pub fn get_device_period(&self, conn: ConnNo, client: ClientNo) -> Result<Payload, Hr>
+        requires order { InOrder E.state self.now }
         ensures does { Does D.faults D.told E.moves None AnyData self.now self.now
             (λ st. get_device_period_plan st conn.0 client.0) (code_of result) (payload_of result) }
     {
@@ -65,6 +69,7 @@ impl<D: Devices, E: EngineSide> Board<D, E> {
         share: u32,
         format: &[u8],
     ) -> Result<Payload, Hr>
+        requires order { InOrder E.state self.now }
         ensures does { Does D.faults D.told E.moves None AnyData self.now self.now
             (λ st. is_format_supported_plan st conn.0 client.0 share format.now)
             (code_of result) (payload_of result) }

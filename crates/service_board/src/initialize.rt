@@ -2,16 +2,17 @@
 
 ghost use Rattle.std.specs.Prelude.{◌≡◌, [], IfErr, IfOk, IfSome, None, is_ok, is_some};
 ghost use Rattle.std.specs.List.{position, position_or_len};
-ghost use Rattle.service_board.specs.Answers.{code_of, payload_of};
+ghost use Rattle.reply_payload.specs.Answers.{code_of, payload_of};
 ghost use Rattle.service_board.specs.Does.{AnyData, Does};
 ghost use Rattle.service_board.specs.InOrder.{InOrder};
 ghost use Rattle.service_board.specs.Openings.{Enters, IsFresh, IsNewStore, Plans, is_above, opening_plan};
 
 use crate::opening::shared_buffer;
-use crate::{Board, Opening, OpeningPlan, Payload};
+use crate::{Board, Opening, OpeningPlan};
 use buffer_ring::EngineSide;
 use ca_base::{ClientNo, Hr};
 use device_io::Devices;
+use reply_payload::Payload;
 
 impl<D: Devices, E: EngineSide> Board<D, E> {
     /// The place of the first entry of a greater client number.
@@ -36,11 +37,12 @@ impl<D: Devices, E: EngineSide> Board<D, E> {
     /// What an Initialize opens, and the store that it needs: one of `buffer` words that renders. All rows are looked
     /// at but that of memory, and a refusal is the call's.
     pub fn plan_initialize(&self, x: &Opening) -> Result<OpeningPlan, Hr>
+        requires order { InOrder E.state self.now }
         ensures refused { IfErr result (λ code.
             Does D.faults D.told E.moves None AnyData self.now self.now (opening_plan x.now) code []) }
         ensures planned { IfOk result (Plans x.now self.now) }
     {
-        let Some(process) = self.book.process_of(x.conn) else {
+        let Some(from) = self.book.connection_place(x.conn) else {
             return Err(Hr::E_HANDLE);
         };
         x.check_later()?;
@@ -51,13 +53,13 @@ impl<D: Devices, E: EngineSide> Board<D, E> {
         x.check_arguments()?;
         let endpoint = &self.book.endpoints[place];
         let format = x.format_for(&endpoint.format)?;
-        let session = self.book.session_of(endpoint.endpoint, process, x.session)?;
+        let key = x.session_key(&self.book.connections[from], endpoint.endpoint);
+        self.book.sessions.check_join(&key)?;
         Ok(OpeningPlan {
             endpoint: endpoint.endpoint,
-            process,
             format,
             buffer: shared_buffer(format.rate, x.duration),
-            session,
+            key,
         })
     }
 

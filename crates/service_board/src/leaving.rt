@@ -3,20 +3,23 @@
 ghost use Rattle.std.specs.Prelude.{◌≡◌, ◌==◌, filter, not, None};
 ghost use Rattle.std.specs.List.{All, AllZip, list_any};
 ghost use Rattle.std.specs.Vec.{vec_capacity};
+ghost use Rattle.session_manager.specs.Sessions.{remaining};
 ghost use Rattle.ca_machine.specs.Clients.{hangup_plan, is_client_on, release_plan};
 ghost use Rattle.ca_machine.specs.State.{is_client_of, is_connection};
 ghost use Rattle.period_engine.specs.Entries.{IsRested};
-ghost use Rattle.service_board.specs.Answers.{code_of, payload_of};
+ghost use Rattle.reply_payload.specs.Answers.{code_of, payload_of};
 ghost use Rattle.service_board.specs.Does.{AnyData, Does};
 ghost use Rattle.service_board.specs.InOrder.{InOrder};
 ghost use Rattle.service_board.specs.Leaving.{AreClosed, Forgets, Keeps, Parts, is_in_use, is_live};
 
-use crate::{Board, Payload};
+use crate::Board;
 use buffer_ring::EngineSide;
 use ca_base::{ClientNo, ConnNo, Gate, Hr, Reason, SessionNo};
-use ca_machine::{Client, Connection, Session};
+use ca_machine::{Client, Connection};
 use device_io::Devices;
 use period_engine::StreamEntry;
+use reply_payload::Payload;
+use session_manager::SessionBook;
 
 /// Whether one of these clients has this number.
 fn is_live(clients: &[Client], client: ClientNo) -> bool
@@ -62,18 +65,18 @@ fn drop_streams<E: EngineSide>(entries: &mut Vec<StreamEntry<E>>, clients: &[Cli
 }
 
 /// Whether one of these streams is of this session.
-fn is_in_use<E>(entries: &[StreamEntry<E>], session: SessionNo) -> bool
+pub fn is_in_use<E>(entries: &[StreamEntry<E>], session: SessionNo) -> bool
     ensures { result ≡ list_any (λ e. e.session.0 == session.0) entries.now }
 {
     entries.iter().any(|entry| entry.session == session)
 }
 
 /// Takes all sessions but those of these streams away.
-fn drop_sessions<E>(sessions: &mut Vec<Session>, entries: &[StreamEntry<E>])
-    ensures left { sessions.new.items ≡ filter (is_in_use entries.now) sessions.old.items }
-    ensures room { vec_capacity sessions.new ≡ vec_capacity sessions.old }
+fn drop_sessions<E>(sessions: &mut SessionBook, entries: &[StreamEntry<E>])
+    ensures left { sessions.new.list ≡ remaining (is_in_use entries.now) sessions.old.list }
+    ensures made { sessions.new.made ≡ sessions.old.made }
 {
-    sessions.retain(|s| is_in_use(entries, s.session));
+    sessions.keep(|s| is_in_use(entries, s.no));
 }
 
 /// Takes a client of a connection away.
@@ -108,6 +111,7 @@ impl<D, E: EngineSide> Board<D, E> {
     {
         drop_streams(&mut self.entries, &self.book.clients);
         drop_sessions(&mut self.book.sessions, &self.entries);
+        self.book.levels_changed = true;
     }
 }
 

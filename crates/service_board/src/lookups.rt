@@ -5,10 +5,11 @@ ghost use Rattle.std.specs.Result.{result_err};
 ghost use Rattle.std.specs.List.{list_any, position};
 ghost use Rattle.ca_machine.specs.SharedRows.{control_rows};
 ghost use Rattle.ca_machine.specs.State.{is_client_of, is_connection, is_endpoint};
-ghost use Rattle.service_board.specs.InOrder.{InOrder, is_seat};
+ghost use Rattle.service_board.specs.InOrder.{InOrder, IsBook};
 ghost use Rattle.service_board.specs.Lookups.{FindsClient, FindsStream, Says};
 ghost use Rattle.service_board.specs.Lookups.{client_call_rows, is_entry_of, stream_call_rows};
 
+use crate::search::{client_at, entry_at};
 use crate::{Board, Book};
 use buffer_ring::EngineSide;
 use ca_base::{ClientNo, ConnNo, EndpointNo, Hr};
@@ -24,11 +25,10 @@ impl Book {
 
     /// The place of a live client of a connection.
     pub fn client_place(&self, conn: ConnNo, client: ClientNo) -> Option<usize>
+        requires { IsBook self.now }
         ensures { result ≡ position (is_client_of conn.0 client.0) self.now.clients.items }
     {
-        self.clients
-            .iter()
-            .position(|c| c.client == client && c.conn == conn)
+        client_at(&self.clients, conn, client)
     }
 
     /// The place of an endpoint.
@@ -42,9 +42,10 @@ impl Book {
 impl<D, E: EngineSide> Board<D, E> {
     /// The place of a client's entry.
     pub fn entry_place(&self, client: ClientNo) -> Option<usize>
+        requires order { InOrder E.state self.now }
         ensures { result ≡ position (is_entry_of client.0) self.now.entries.items }
     {
-        self.entries.iter().position(|entry| entry.client == client)
+        entry_at(&self.entries, client)
     }
 
     /// Whether a control call's connection is open.
@@ -59,6 +60,7 @@ impl<D, E: EngineSide> Board<D, E> {
 
     /// The place in the book of a call's client, which is a live client of the connection.
     pub fn live_client(&self, conn: ConnNo, client: ClientNo) -> Result<usize, Hr>
+        requires order { InOrder E.state self.now }
         ensures refused { IfErr result (λ code. Says self.now (client_call_rows conn.0 client.0) (Some code)) }
         ensures found { IfOk result (FindsClient conn.0 client.0 self.now) }
     {

@@ -6,13 +6,18 @@ ghost use Rattle.ca_base.specs.declared.limits.TheConstants.{MAX_STORE_WORDS};
 ghost use Rattle.ca_base.specs.declared.values.TheConstants.{SHARE_EXCLUSIVE};
 ghost use Rattle.ca_base.specs.Rows.{first};
 ghost use Rattle.wave_format.specs.Format.{IsValid, frames_of_time, is_listed};
-ghost use Rattle.ca_machine.specs.Streams.{has_later_flag, has_other_flag, later_rows, matches, shared_buffer};
-ghost use Rattle.service_board.specs.Openings.{HasFormat, argument_rows, arguments, format_rows, new_entry};
+ghost use Rattle.ca_machine.specs.Streams.{has_later_flag, has_other_flag, is_cross_process, is_kept, later_rows};
+ghost use Rattle.ca_machine.specs.Streams.{matches, shared_buffer};
+ghost use Rattle.service_board.specs.Openings.{HasFormat, argument_rows, arguments, format_rows, key_by, new_entry};
 
 use ca_base::limits::{MAX_LEVEL, MAX_SHARED_BUFFER_SECONDS, MAX_TIME, SHARED_PERIOD};
-use ca_base::values::{SHARE_EXCLUSIVE, STREAM_CROSSPROCESS, STREAM_NOPERSIST};
-use ca_base::{ClientNo, ConnNo, EndpointNo, Gate, Guid, Hr, SessionNo, StreamKind};
+use ca_base::values::{
+    SHARE_EXCLUSIVE, STREAM_CROSSPROCESS, STREAM_EVENTCALLBACK, STREAM_LOOPBACK, STREAM_NOPERSIST,
+};
+use ca_base::{ClientNo, ConnNo, EndpointNo, Gate, Guid, Hr, SessionNo, StreamKind, Text};
+use ca_machine::Connection;
 use period_engine::StreamEntry;
+use session_manager::SessionKey;
 use wave_format::{Format, frames_of, read_format};
 
 /// The lowest of the flags that have a meaning, and the first bit above them (AUDCLNT_STREAMFLAGS).
@@ -40,21 +45,34 @@ pub struct Opening<'a> {
 /// What an Initialize opens that no row but want of memory refuses.
 #[derive(Clone, Copy)]
 pub struct OpeningPlan {
-    /// The client's endpoint, and the process of its connection.
+    /// The client's endpoint.
     pub endpoint: EndpointNo,
-    pub process: u32,
     pub format: Format,
     /// The frames of the buffer, which are the words of its store.
     pub buffer: u32,
-    /// The session that the stream joins; a new one if there is none.
-    pub session: Option<SessionNo>,
+    /// What names the session that the stream joins.
+    pub key: SessionKey,
 }
 
 /// Whether flags of later parts of the service are set.
 fn has_later_flag(flags: u32) -> bool
     ensures { result ≡ has_later_flag flags }
 {
-    flags / FIRST_FLAG % (FLAGS_END / FIRST_FLAG) != 0
+    flags / STREAM_LOOPBACK % (2 * STREAM_EVENTCALLBACK / STREAM_LOOPBACK) != 0
+}
+
+/// Whether processes share the session.
+fn is_cross_process(flags: u32) -> bool
+    ensures { result ≡ is_cross_process flags }
+{
+    flags / STREAM_CROSSPROCESS % 2 != 0
+}
+
+/// Whether the level of a session that is made is kept.
+fn is_kept(flags: u32) -> bool
+    ensures { result ≡ is_kept flags }
+{
+    flags / STREAM_NOPERSIST % 2 == 0
 }
 
 /// Whether other flags are set.
@@ -96,7 +114,7 @@ impl<'a> Opening<'a> {
     pub fn check_later(&self) -> Result<(), Hr>
         ensures { first (later_rows (arguments self.now)) ≡ result_err result }
     {
-        if self.share == SHARE_EXCLUSIVE || has_later_flag(self.flags) || self.session != Guid(0) {
+        if self.share == SHARE_EXCLUSIVE || has_later_flag(self.flags) {
             return Err(Hr::E_NOTIMPL);
         }
         Ok(())
@@ -135,6 +153,35 @@ impl<'a> Opening<'a> {
             return Err(Hr::UNSUPPORTED_FORMAT);
         }
         Ok(format)
+    }
+
+    /// What names the session that the stream joins, over the connection of the call and on the client's endpoint.
+    pub fn session_key(&self, connection: &Connection, endpoint: EndpointNo) -> SessionKey
+        ensures { result ≡ key_by self.now connection.now endpoint }
+    {
+        let guid = self.session;
+        if is_cross_process(self.flags) {
+            let name = Text::new(b"*");
+            return SessionKey {
+                endpoint,
+                process: 0,
+                guid,
+                name,
+            };
+        }
+        SessionKey {
+            endpoint,
+            process: connection.process,
+            guid,
+            name: connection.name,
+        }
+    }
+
+    /// Whether the level of a session that is made is kept.
+    pub fn is_kept(&self) -> bool
+        ensures { result ≡ is_kept self.now.flags }
+    {
+        is_kept(self.flags)
     }
 
     /// The entry of the stream that is opened, in a session, with its store.

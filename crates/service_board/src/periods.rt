@@ -1,21 +1,22 @@
 //! A period of an endpoint: what is due is played; or the device fails, and the endpoint with it.
 
-ghost use Rattle.std.specs.Prelude.{◌≡◌, IfErr, IfOk, None, Some};
+ghost use Rattle.std.specs.Prelude.{◌≡◌, IfErr, IfOk, None, Some, false};
 ghost use Rattle.ca_machine.specs.Periods.{period_frames, period_plan};
-ghost use Rattle.service_board.specs.Answers.{IsPeriod, code_of, payload_of};
+ghost use Rattle.reply_payload.specs.Answers.{IsPeriod, code_of, payload_of};
 ghost use Rattle.service_board.specs.Does.{AnyData, Does};
 ghost use Rattle.service_board.specs.Due.{FindsDue};
 ghost use Rattle.service_board.specs.InOrder.{InOrder};
 ghost use Rattle.service_board.specs.Lookups.{Says};
 
+use crate::Board;
 use crate::plays::play;
-use crate::{Board, Payload};
 use buffer_ring::EngineSide;
 use ca_base::limits::{MAX_COUNT, MAX_LEVEL, SHARED_PERIOD};
 use ca_base::values::{STATE_ACTIVE, STATE_NOTPRESENT};
 use ca_base::{EndpointNo, Failed, Hr};
 use ca_machine::Endpoint;
 use device_io::Devices;
+use reply_payload::Payload;
 use wave_format::frames_of;
 
 /// The gain of each channel of an endpoint: none changes anything.
@@ -51,10 +52,23 @@ impl<D: Devices, E: EngineSide> Board<D, E> {
         Ok(at)
     }
 
-    /// A period of an endpoint: what is due of its streams is played. If the device fails, its streams are closed, and
-    /// the endpoint is NOTPRESENT.
+    /// A period of an endpoint: what is due of its streams is played, with the gains of their levels. If the device
+    /// fails, its streams are closed, and the endpoint is NOTPRESENT.
     pub fn period(&mut self, e: EndpointNo) -> Result<Payload, Hr>
         requires order { InOrder E.state self.old }
+        ensures does { Does D.faults D.told E.moves None AnyData self.old self.new
+            (λ st. period_plan st e.0) (code_of result) (payload_of result) }
+        ensures order { InOrder E.state self.new }
+        ensures plays { IfOk result IsPeriod }
+    {
+        self.refresh_gains();
+        self.play_due(e)
+    }
+
+    /// The same, with gains that are those of the levels.
+    fn play_due(&mut self, e: EndpointNo) -> Result<Payload, Hr>
+        requires order { InOrder E.state self.old }
+        requires fresh { self.old.book.levels_changed ≡ false }
         ensures does { Does D.faults D.told E.moves None AnyData self.old self.new
             (λ st. period_plan st e.0) (code_of result) (payload_of result) }
         ensures order { InOrder E.state self.new }

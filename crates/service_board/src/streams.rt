@@ -6,16 +6,17 @@ ghost use Rattle.ca_machine.specs.Streams.{get_buffer_size_plan, get_stream_late
 ghost use Rattle.ca_machine.specs.Streams.{get_service_plan, is_service, start_plan, stop_plan, reset_plan};
 ghost use Rattle.ca_stage.specs.Stage.{is_render};
 ghost use Rattle.period_engine.specs.Entries.{IsRested};
-ghost use Rattle.service_board.specs.Answers.{code_of, payload_of};
+ghost use Rattle.reply_payload.specs.Answers.{code_of, payload_of};
 ghost use Rattle.service_board.specs.Does.{AnyData, Does};
 ghost use Rattle.service_board.specs.InOrder.{InOrder};
 ghost use Rattle.service_board.specs.StreamCalls.{Empties, IsLeased};
 
-use crate::{Board, Payload};
+use crate::Board;
 use buffer_ring::EngineSide;
 use ca_base::{ClientNo, ConnNo, Hr, StreamKind};
 use device_io::Devices;
 use period_engine::StreamEntry;
+use reply_payload::Payload;
 
 /// Whether there is a service of this number.
 fn is_service(service: u32) -> bool

@@ -3,7 +3,6 @@ use Rattle.std.proofs.Common.{◌≡◌, ℕ, List, Option, ap, refl, subst, sym
 use Rattle.std.specs.List.{All}
 use Rattle.std.proofs.lemmas.List.Elements.{All-nil}
 use Rattle.device_io.specs.DeviceLog.{DeviceLog}
-use Rattle.ca_base.specs.declared.codes.Hr.{Hr}
 use Rattle.ca_model.specs.declared.event.Event.{Event}
 use Rattle.ca_model.specs.declared.reply.Reply.{Reply}
 use Rattle.buffer_ring.specs.Kept.{Kept}
@@ -15,16 +14,15 @@ use Rattle.ca_machine.specs.View.{AnswersEvent, MachineView}
 use Rattle.service_board.specs.New.{IsNewBoard}
 use Rattle.service_board.specs.declared.board.Board.{Board}
 use Rattle.service_core.specs.Core.{HasSide, core_datas, core_state}
-use Rattle.service_core.specs.Service.{AnswersPlan, HasHead, HasSameHead, IsCore}
+use Rattle.service_core.specs.Service.{AnswersPlan, HasHead, IsCore}
 use Rattle.service_core.specs.declared.both_ends.BothEnds.{BothEnds}
 
 -- the entry has the reply's result and payload, and the moves and the output of the step
 pub asked : {D : Type 0} (faults : D → ℕ) (told : D → Option (List DeviceLog)) (old new : MachineView D)
-    (event : Event) (begun reply : Reply) (result : Hr) (payload : List ℕ) →
-    AnswersPlan faults told (λ st. plan st event) result payload old new → HasHead event begun →
-    HasSameHead begun reply → reply.result ≡ result → reply.payload.list ≡ payload →
+    (event : Event) (reply : Reply) → HasHead event reply →
+    AnswersPlan faults told (λ st. plan st event) reply.result reply.payload.list old new →
     AnswersEvent faults told old event reply new
-asked faults told old new event begun reply result payload got head same result_is payload_is = record {
+asked faults told old new event reply head got = record {
   entry = record {
     event = event;
     answers = got.given;
@@ -36,16 +34,16 @@ asked faults told old new event begun reply result payload got head same result_
   event-is = refl;
   steps = record {
     answers = got.answers;
-    result = result_is ∙ got.result-is;
-    payload = payload_is ∙ got.payload-is;
+    result = got.result-is;
+    payload = got.payload-is;
     moves = refl;
     output = refl;
     after = got.after-is;
   };
   replies = record {
-    kind = same.kind ∙ head.kind;
-    connection = same.connection ∙ head.connection;
-    tag = same.tag ∙ head.tag;
+    kind = head.kind;
+    connection = head.connection;
+    tag = head.tag;
     result = refl;
     payload = refl;
   };

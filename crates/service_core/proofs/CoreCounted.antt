@@ -20,7 +20,7 @@ use Rattle.period_engine.specs.declared.entry.StreamEntry.{StreamEntry}
 use Rattle.period_engine.specs.Entries.{stream_of}
 use Rattle.service_board.specs.Does.{Does}
 use Rattle.service_board.specs.InOrder.{Belongs, InOrder}
-use Rattle.service_board.specs.declared.payload.Payload.TheVariants as payload_is
+use Rattle.reply_payload.specs.declared.payload.Payload.TheVariants as payload_is
 use Rattle.service_board.specs.declared.board.Board.{Board}
 use Rattle.service_core.specs.BothEnds.{MovesStore}
 use Rattle.service_core.specs.Core.{Goes, GoesTo, LooksAround, core_datas, core_state, open_words}

@@ -17,7 +17,7 @@ use Rattle.ca_machine.specs.State.{State}
 use Rattle.ca_machine.specs.Plan.{Answer, Plan, outcome_of}
 use Rattle.ca_machine.specs.View.{AnswersBy, outside}
 use Rattle.period_engine.specs.Entries.{AreInOrder, stream_of}
-use Rattle.service_board.specs.declared.payload.Payload.TheVariants as payload_is
+use Rattle.reply_payload.specs.declared.payload.Payload.TheVariants as payload_is
 use Rattle.service_board.specs.declared.board.Board.{Board}
 use Rattle.service_core.specs.Core.{Goes, GoesTo, LooksAround, core_data, core_datas, core_state, open_words}
 use Rattle.service_core.specs.Counting.{after_taking, more_dropped, more_reset}

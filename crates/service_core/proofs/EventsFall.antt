@@ -1,5 +1,5 @@
 -- Each event but a data call leaves streams as they were opened, with no more frames pending.
-use Rattle.std.proofs.Common.{ℕ, ◌+◌, ◌||◌, not, List, [], ◌∷◌, ◌++◌, filter, Bool, true, false, Option, Some, None}
+use Rattle.std.proofs.Common.{ℕ, ◌||◌, not, List, [], ◌∷◌, ◌++◌, filter, Bool, true, false, Option, Some, None}
 use Rattle.std.proofs.Common.{if◌then◌else◌}
 use Rattle.std.specs.List.{AllByRecursion}
 use Rattle.std.specs.Int.{w32, w64, to_le_bytes}
@@ -16,10 +16,11 @@ use Rattle.wave_format.specs.Format.{spelled}
 use Rattle.ca_stage.specs.Stage.{Stream, padding}
 use Rattle.ca_stage.specs.Moves.{StreamMove, started, stopped, reset, added, opened, of_client, Mixing, after_moves}
 use Rattle.ca_stage.specs.Moves.{sub_steps, stream_at}
+use Rattle.session_manager.specs.declared.session.Session.{Session}
+use Rattle.session_manager.specs.Sessions.{number_joined, session_at}
 use Rattle.ca_machine.specs.declared.state.Client.{Client}
 use Rattle.ca_machine.specs.declared.state.Endpoint.{Endpoint}
-use Rattle.ca_machine.specs.declared.state.Session.{Session}
-use Rattle.ca_machine.specs.State.{State, live_clients, client_of, endpoint_at, is_client_of}
+use Rattle.ca_machine.specs.State.{State, live_clients, client_of, endpoint_at, is_client_of, session_list}
 use Rattle.ca_machine.specs.Plan.{
   Outcome,
   Plan,
@@ -40,14 +41,16 @@ use Rattle.ca_machine.specs.Clients.{closes, leaving, hangup_plan, is_client_on,
 use Rattle.ca_machine.specs.Streams.{
   Opening,
   initialized,
-  joined,
   new_stream,
-  session_found,
+  session_key,
+  stream_level,
   supported,
   is_faulty,
   matches,
   format_payload,
+  with_stream_level,
 }
+use Rattle.ca_machine.specs.Sessions.{session_payload, state_of_session, with_session}
 use Rattle.ca_machine.specs.Periods.{after_period, mixing_of, period_of, period_rows, sounding}
 use Rattle.ca_machine.specs.Step.{call_plan, device_plan, plan}
 use Rattle.ca_machine.proofs.PeriodMoves.{OfSubSteps, sub_steps_all}
@@ -111,16 +114,23 @@ of_leaving st gone left =
     (all_moved st.stage (closes gone) (closes_control gone))
 
 -- a stream that is opened
-of_session : (st : State) (conn : ℕ) (client : Client) (x : Opening) (found : Option Session) →
-    Leaves st (joined st conn client x found)
-of_session st conn client x None =
-    all_moved st.stage (opened (new_stream client x (st.sessions_made + 1)) ∷ []) (tt, tt)
-of_session st conn client x (Some session) =
-    all_moved st.stage (opened (new_stream client x session.session.0) ∷ []) (tt, tt)
-
 of_opening : (st : State) (conn : ℕ) (client : Option Client) (x : Opening) → Leaves st (initialized st conn client x)
 of_opening st conn None x = all_still st.stage
-of_opening st conn (Some client) x = of_session st conn client x (session_found st conn (Some client) x)
+of_opening st conn (Some client) x =
+    all_moved st.stage
+    (opened (new_stream client x (number_joined (session_key st conn client x) (session_list st))) ∷ []) (tt, tt)
+
+-- a session
+of_session : (st : State) (s : Option Session) (f : Session → Outcome) → ((s : Session) → Leaves st (f s)) →
+    Leaves st (with_session st s f)
+of_session st None f h = all_still st.stage
+of_session st (Some s) f h = h s
+
+keeps_still : (st : State) (rows : List (Row Hr)) (s : Option Stream) (after : State) → AllFell st.stage after.stage →
+    Keeps st (plain rows (with_stream st s (λ s. granted [] [] after)))
+keeps_still st rows s after h =
+    keeps_plain st rows (with_stream st s (λ s. granted [] [] after))
+    (of_stream st s (λ s. granted [] [] after) (λ s. h))
 
 -- a period
 of_failed : (number : ℕ) (whole : Bool) (st after : State) → AllFell st.stage after.stage →
@@ -195,8 +205,24 @@ of_call st conn (call.Reset c) control = keeps_moves st _ (stream_at c.0 st.stag
 of_call st conn (call.GetService c service) control = keeps_tells st _ (stream_at c.0 st.stage) (λ s. [])
 of_call st conn (call.GetPosition c) control = keeps_tells st _ (stream_at c.0 st.stage)
     (λ s. to_le_bytes w64 s.position ++ to_le_bytes w64 s.rate)
+of_call st conn (call.GetStreamLevel c channel) control = keeps_tells st _ (stream_at c.0 st.stage)
+    (λ s. to_le_bytes w32 (stream_level conn c.0 channel st))
+of_call st conn (call.SetStreamLevel c channel level) control = keeps_still st _ (stream_at c.0 st.stage)
+    (record st { clients = with_stream_level conn c.0 channel level st.clients }) (all_still st.stage)
 of_call st conn (call.GetBuffer c frames) control = absurd control
 of_call st conn (call.ReleaseBuffer c frames flags bytes) control = absurd control
+of_call st conn (call.EnumSessions e) control = keeps_plain st _ _ (all_still st.stage)
+of_call st conn (call.GetSession s) control =
+    keeps_plain st _ (with_session st (session_at s.0 st.sessions)
+    (λ k. answered st (session_payload (state_of_session s.0 st.stage.streams) k)))
+    (of_session st (session_at s.0 st.sessions)
+    (λ k. answered st (session_payload (state_of_session s.0 st.stage.streams) k)) (λ k. all_still st.stage))
+of_call st conn (call.SetMaster s level context) control = keeps_plain st _ _ (all_still st.stage)
+of_call st conn (call.SetMute s mute context) control = keeps_plain st _ _ (all_still st.stage)
+of_call st conn (call.SetChannel s channel level context) control = keeps_plain st _ _ (all_still st.stage)
+of_call st conn (call.SetDisplayName s context text) control = keeps_plain st _ _ (all_still st.stage)
+of_call st conn (call.SetIconPath s context text) control = keeps_plain st _ _ (all_still st.stage)
+of_call st conn (call.SetGrouping s grouping context) control = keeps_plain st _ _ (all_still st.stage)
 of_call st conn (call.Other code rest) control = keeps_plain st _ _ (all_still st.stage)
 
 of_device : (st : State) (x : DeviceEvent) → Keeps st (device_plan st x)

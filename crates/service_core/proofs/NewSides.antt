@@ -7,16 +7,17 @@ use Rattle.std.specs.List.{All, AllByRecursion, insert}
 use Rattle.ca_base.specs.declared.codes.Hr.{Hr}
 use Rattle.ca_base.specs.declared.ids.SessionNo.{SessionNo}
 use Rattle.ca_base.specs.declared.limits.TheConstants.{MAX_STORE_WORDS}
-use Rattle.buffer_ring.specs.Kept.{Kept}
+use Rattle.buffer_ring.specs.declared.step.EndState.{EndState}
+use Rattle.buffer_ring.specs.Kept.{Kept, state_of}
 use Rattle.client_state.specs.declared.side.ClientSide.{ClientSide}
 use Rattle.ca_stage.specs.Stage.{no_data}
 use Rattle.period_engine.specs.declared.entry.StreamEntry.{StreamEntry}
 use Rattle.service_board.specs.declared.board.Board.{Board}
 use Rattle.service_board.specs.declared.opening.Opening.{Opening as Asked}
 use Rattle.service_board.specs.declared.opening.OpeningPlan.{OpeningPlan}
-use Rattle.service_board.specs.declared.payload.Payload.{Payload}
+use Rattle.reply_payload.specs.declared.payload.Payload.{Payload}
 use Rattle.service_board.specs.Lookups.{is_entry_of}
-use Rattle.service_board.specs.Openings.{Enters, new_entry}
+use Rattle.service_board.specs.Openings.{Enters, IsNewStore, new_entry}
 use Rattle.service_core.specs.declared.both_ends.BothEnds.{BothEnds}
 use Rattle.service_core.specs.Core.{AreNewEnds, HasSide, HaveSides, IsFresh, core_data, core_datas, new_side}
 use Rattle.service_core.proofs.CoreSteps.{all_by, each_of}
@@ -35,6 +36,13 @@ pub given_is_fresh : {F : Type 0} (kept : F → Kept) (plan : OpeningPlan) (give
     IfSome given (AreNewEnds kept plan) → IfSome given (IsFresh kept)
 given_is_fresh kept plan None h = tt
 given_is_fresh kept plan (Some ends) h = new_is_fresh kept plan ends h
+
+-- and their store is new at the engine's end
+pub given_is_new : {F : Type 0} (kept : F → Kept) (state : F → EndState) (whole : (x : F) → state_of (kept x) ≡ state x)
+    (plan : OpeningPlan) (given : Option (BothEnds F)) → IfSome given (AreNewEnds kept plan) →
+    IfSome given (IsNewStore (λ ends. state ends.store) plan.buffer)
+given_is_new kept state whole plan None h = tt
+given_is_new kept state whole plan (Some ends) h = sym (whole ends.store) ∙ ap state_of h.store
 
 -- the side of new ends knows the stream that is opened
 new_has_side : {F : Type 0} (kept : F → Kept) (x : Asked) (plan : OpeningPlan) (session : SessionNo) (store : F)

@@ -9,11 +9,11 @@ use Rattle.buffer_ring.specs.declared.step.Step.{Step}
 use Rattle.buffer_ring.specs.Kept.{Kept, RunsSteps, state_of}
 use Rattle.ca_stage.specs.Tally.{Tally}
 use Rattle.ca_machine.specs.Periods.{period_plan}
-use Rattle.service_board.specs.Answers.{IsPeriod, code_of, payload_of}
+use Rattle.reply_payload.specs.Answers.{IsPeriod, code_of, payload_of}
 use Rattle.service_board.specs.Does.{AnyData, Does}
 use Rattle.service_board.specs.InOrder.{InOrder}
-use Rattle.service_board.specs.declared.payload.Payload.{Payload}
-use Rattle.service_board.specs.declared.payload.Payload.TheVariants as payload
+use Rattle.reply_payload.specs.declared.payload.Payload.{Payload}
+use Rattle.reply_payload.specs.declared.payload.Payload.TheVariants as payload
 use Rattle.service_board.specs.declared.board.Board.{Board}
 use Rattle.service_core.specs.BothEnds.{MovesStore}
 use Rattle.service_core.specs.Core.{GoesTo, LooksAround, core_state, open_words}

@@ -27,9 +27,10 @@ use Rattle.wave_format.specs.Format.{spelled}
 use Rattle.ca_stage.specs.Stage.{Stream}
 use Rattle.ca_stage.specs.Moves.{StreamMove, leased, released, started, stopped, of_client, is_open_of, stream_at}
 use Rattle.ca_stage.specs.Tally.{Tally, tally_of_found, tally_of_stream}
+use Rattle.session_manager.specs.declared.session.Session.{Session}
+use Rattle.session_manager.specs.Sessions.{session_at}
 use Rattle.ca_machine.specs.declared.state.Client.{Client}
 use Rattle.ca_machine.specs.declared.state.Endpoint.{Endpoint}
-use Rattle.ca_machine.specs.declared.state.Session.{Session}
 use Rattle.ca_machine.specs.State.{State, client_of}
 use Rattle.ca_machine.specs.Plan.{
   Outcome,
@@ -50,12 +51,18 @@ use Rattle.ca_machine.specs.Streams.{
   Opening,
   initialize_plan,
   initialized,
-  joined,
-  session_found,
   supported,
   is_faulty,
   matches,
   format_payload,
+  with_stream_level,
+}
+use Rattle.ca_machine.specs.Sessions.{
+  enum_sessions_plan,
+  get_session_plan,
+  session_payload,
+  state_of_session,
+  with_session,
 }
 use Rattle.ca_machine.specs.Data.{get_buffer_plan, release_buffer_plan, frames_released}
 use Rattle.ca_machine.specs.Step.{call_plan, device_plan}
@@ -121,14 +128,20 @@ moves st rows s client m mute =
     (of_stream st s (λ s. granted [] (of_client client (m s) ∷ []) st)
     (λ s. mute_found client (m s) (mute s) (stream_at client st.stage) st.tally))
 
-of_session : (st : State) (conn : ℕ) (client : Client) (x : Opening) (found : Option Session) →
-    Leaves st (joined st conn client x found)
-of_session st conn client x None = refl
-of_session st conn client x (Some session) = refl
-
 of_opening : (st : State) (conn : ℕ) (client : Option Client) (x : Opening) → Leaves st (initialized st conn client x)
 of_opening st conn None x = refl
-of_opening st conn (Some client) x = of_session st conn client x (session_found st conn (Some client) x)
+of_opening st conn (Some client) x = refl
+
+of_session : (st : State) (s : Option Session) (f : Session → Outcome) → ((s : Session) → Leaves st (f s)) →
+    Leaves st (with_session st s f)
+of_session st None f h = refl
+of_session st (Some s) f h = h s
+
+still : (st : State) (rows : List (Row Hr)) (s : Option Stream) (after : State) → after.tally ≡ st.tally →
+    LeavesTally st (plain rows (with_stream st s (λ s. granted [] [] after)))
+still st rows s after h =
+    of_plain st rows (with_stream st s (λ s. granted [] [] after))
+    (of_stream st s (λ s. granted [] [] after) (λ s. h))
 
 of_supported : (st : State) (payload : List ℕ) (b : Bool) → Leaves st
     (if b then record (answered st payload) { result = hr.S_FALSE } else answered st [])
@@ -160,8 +173,19 @@ tally_of_call st conn (call.Stop c) h =
 tally_of_call st conn (call.Reset c) h = absurd h
 tally_of_call st conn (call.GetService c service) h = tells st _ (stream_at c.0 st.stage) _
 tally_of_call st conn (call.GetPosition c) h = tells st _ (stream_at c.0 st.stage) _
+tally_of_call st conn (call.GetStreamLevel c channel) h = tells st _ (stream_at c.0 st.stage) _
+tally_of_call st conn (call.SetStreamLevel c channel level) h = still st _ (stream_at c.0 st.stage)
+    (record st { clients = with_stream_level conn c.0 channel level st.clients }) refl
 tally_of_call st conn (call.GetBuffer c frames) h = absurd h
 tally_of_call st conn (call.ReleaseBuffer c frames flags bytes) h = absurd h
+tally_of_call st conn (call.EnumSessions e) h = absurd h
+tally_of_call st conn (call.GetSession s) h = absurd h
+tally_of_call st conn (call.SetMaster s level context) h = of_plain st _ _ refl
+tally_of_call st conn (call.SetMute s mute context) h = of_plain st _ _ refl
+tally_of_call st conn (call.SetChannel s channel level context) h = of_plain st _ _ refl
+tally_of_call st conn (call.SetDisplayName s context text) h = of_plain st _ _ refl
+tally_of_call st conn (call.SetIconPath s context text) h = of_plain st _ _ refl
+tally_of_call st conn (call.SetGrouping s grouping context) h = of_plain st _ _ refl
 tally_of_call st conn (call.Other code rest) h = of_plain st _ _ refl
 
 -- the others, but those that give frames a fate
@@ -189,6 +213,17 @@ tally_of_open st conn process name = of_plain st _ _ refl
 pub tally_of_device : (st : State) (x : DeviceEvent) → LeavesTally st (device_plan st x)
 tally_of_device st (device.Add e flow format name) = of_memory st _ _ refl
 tally_of_device st (device.Other code rest) = of_plain st _ _ refl
+
+-- calls that tell of sessions
+pub tally_of_enum : (st : State) (conn endpoint : ℕ) → LeavesTally st (enum_sessions_plan st conn endpoint)
+tally_of_enum st conn endpoint = of_plain st _ _ refl
+
+pub tally_of_get : (st : State) (conn number : ℕ) → LeavesTally st (get_session_plan st conn number)
+tally_of_get st conn number =
+    of_plain st _ (with_session st (session_at number st.sessions)
+    (λ k. answered st (session_payload (state_of_session number st.stage.streams) k)))
+    (of_session st (session_at number st.sessions)
+    (λ k. answered st (session_payload (state_of_session number st.stage.streams) k)) (λ k. refl))
 
 -- such a call is no data call
 pub plain_control : (x : Call) → IsPlainCall x → IsControlCall x

@@ -3,8 +3,8 @@ use Rattle.std.specs.Prelude.{ℕ, ◌≤◌, Result, Ok, Err, if◌then◌else�
 use Rattle.ca_base.specs.declared.codes.Hr.{Hr}
 use Rattle.ca_base.specs.declared.limits.TheConstants.{MAX_TALLY}
 use Rattle.ca_stage.specs.Tally.{Tally, counted}
-use Rattle.service_board.specs.declared.payload.Payload.{Payload}
-use Rattle.service_board.specs.Answers.{is_failure}
+use Rattle.reply_payload.specs.declared.payload.Payload.{Payload}
+use Rattle.reply_payload.specs.Answers.{is_failure}
 
 -- counts that are in range
 pub record HasCounts (t : Tally) : Type 0 where

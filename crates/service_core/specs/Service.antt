@@ -41,9 +41,3 @@ pub record HasHead (event : Event) (r : Reply) : Type 0 where
   pub kind : r.kind ≡ event_kind event
   pub connection : r.conn ≡ event_connection event
   pub tag : r.tag ≡ event_tag event
-
--- a reply has the kind, the connection and the tag of another
-pub record HasSameHead (old new : Reply) : Type 0 where
-  pub kind : new.kind ≡ old.kind
-  pub connection : new.conn ≡ old.conn
-  pub tag : new.tag ≡ old.tag

@@ -5,8 +5,8 @@ ghost use Rattle.ca_machine.specs.Data.{get_buffer_plan, get_current_padding_pla
 ghost use Rattle.ca_machine.specs.Periods.{period_plan};
 ghost use Rattle.ca_machine.specs.Step.{call_plan, device_plan};
 ghost use Rattle.ca_machine.specs.Streams.{reset_plan};
-ghost use Rattle.service_board.specs.Answers.{code_of, payload_of};
-ghost use Rattle.service_board.specs.Calls.{IsPlainCall};
+ghost use Rattle.reply_payload.specs.Answers.{code_of, payload_of};
+ghost use Rattle.service_board.specs.Calls.{IsPlainCall, IsShortCall};
 ghost use Rattle.service_board.specs.Openings.{opening_plan};
 ghost use Rattle.service_core.specs.Service.{AnswersPlan};
 
@@ -18,7 +18,8 @@ use buffer_ring::FrameStore;
 use ca_base::{ClientNo, ConnNo, EndpointNo, Hr, Text};
 use ca_model::{Call, DeviceEvent};
 use device_io::Devices;
-use service_board::{Opening, Payload};
+use reply_payload::Payload;
+use service_board::Opening;
 
 impl<D: Devices, F: FrameStore> Core<D, F> {
     /// A connection opens.
@@ -101,7 +102,8 @@ impl<D: Devices, F: FrameStore> Core<D, F> {
         release_buffer(&mut self.board, conn, client, frames, flags, bytes)
     }
 
-    /// A call that asks for no memory, needs nothing of the client's side, and gives no frame a fate.
+    /// A call that asks for no memory, needs nothing of the client's side, gives no frame a fate, and answers a few
+    /// bytes.
     fn plain_call(&mut self, conn: ConnNo, call: &Call) -> Result<Payload, Hr>
         requires { IsPlainCall call.now }
         ensures { AnswersPlan D.faults D.told (λ st. call_plan st conn.0 call.now)
@@ -110,8 +112,9 @@ impl<D: Devices, F: FrameStore> Core<D, F> {
         self.board.plain_call(conn, call)
     }
 
-    /// A call of a connection.
+    /// A call of a connection that answers a few bytes.
     pub fn call(&mut self, conn: ConnNo, call: &Call) -> Result<Payload, Hr>
+        requires { IsShortCall call.now }
         ensures { AnswersPlan D.faults D.told (λ st. call_plan st conn.0 call.now)
             (code_of result) (payload_of result) self.old self.new }
     {

@@ -5,7 +5,8 @@ ghost use Rattle.ca_machine.specs.Clients.{hangup_plan, release_plan};
 ghost use Rattle.ca_machine.specs.Periods.{period_plan};
 ghost use Rattle.ca_machine.specs.Streams.{reset_plan};
 ghost use Rattle.ca_stage.specs.Tally.{Tally};
-ghost use Rattle.service_board.specs.Answers.{code_of, payload_of};
+ghost use Rattle.reply_payload.specs.Answers.{code_of, payload_of};
+ghost use Rattle.service_board.specs.InOrder.{InOrder};
 ghost use Rattle.service_core.specs.Counting.{HasCounts, after_taking, more_dropped, more_reset};
 ghost use Rattle.service_core.specs.Core.{GoesTo, core_datas};
 ghost use Rattle.service_core.specs.Service.{IsCore};
@@ -15,10 +16,12 @@ use crate::pending::pending;
 use buffer_ring::FrameStore;
 use ca_base::{ClientNo, ConnNo, EndpointNo, Hr};
 use device_io::Devices;
-use service_board::{Board, Payload};
+use reply_payload::Payload;
+use service_board::Board;
 
 /// Whether a client has leased frames.
 fn has_lease<D, F: FrameStore>(board: &Board<D, BothEnds<F>>, client: ClientNo) -> bool
+    requires { InOrder (λ ends. F.state ends.store) board.now }
     ensures { result ≡ is_some (core_datas F.kept board.now.entries.items client.0).lease }
 {
     match board.entry_place(client) {

@@ -9,7 +9,7 @@ ghost use Rattle.ca_stage.specs.Tally.{Tally};
 ghost use Rattle.ca_machine.specs.Data.{frames_released, get_buffer_plan, get_current_padding_plan};
 ghost use Rattle.ca_machine.specs.Data.{release_buffer_plan};
 ghost use Rattle.period_engine.specs.Entries.{FitsStore};
-ghost use Rattle.service_board.specs.Answers.{code_of, payload_of};
+ghost use Rattle.reply_payload.specs.Answers.{code_of, payload_of};
 ghost use Rattle.service_board.specs.InOrder.{InOrder};
 ghost use Rattle.service_core.specs.Core.{Goes, HasSide, HaveSides, IsLooked, IsTouched, Releases, seen_in};
 ghost use Rattle.service_core.specs.DataCalls.{FindsEntry, RefusesData};
@@ -21,7 +21,8 @@ use ca_base::{ClientNo, ConnNo, Hr};
 use client_state::{DataCall, Verdict, data_check};
 use device_io::Devices;
 use period_engine::StreamEntry;
-use service_board::{Board, Payload};
+use reply_payload::Payload;
+use service_board::Board;
 
 /// Takes one look at an entry's store, and checks a data call: the code of its first row that holds, or else how many
 /// words are there.
@@ -97,6 +98,7 @@ fn data_place<D, F: FrameStore>(
     conn: ConnNo,
     client: ClientNo,
 ) -> Result<usize, Hr>
+    requires order { InOrder (λ ends. F.state ends.store) board.now }
     ensures refused { IfErr result (RefusesData conn.0 client.0 board.now) }
     ensures found { IfOk result (FindsEntry conn.0 client.0 board.now) }
 {

@@ -1,19 +1,20 @@
 //! The service as a desk: it answers each event as the machine does.
 
 ghost use Rattle.std.specs.Prelude.{◌≡◌, ◌≤◌, [], length};
-ghost use Rattle.ca_machine.specs.Step.{plan};
+ghost use Rattle.ca_machine.specs.Step.{call_plan, plan};
 ghost use Rattle.ca_machine.specs.View.{AnswersEvent};
-ghost use Rattle.service_board.specs.Answers.{code_of, payload_of};
-ghost use Rattle.service_core.specs.Service.{AnswersPlan, HasHead, HasSameHead};
+ghost use Rattle.reply_payload.specs.Answers.{code_of, payload_of, told_code};
+ghost use Rattle.reply_payload.specs.declared.payload.TheConstants.{REPLY_ROOM};
+ghost use Rattle.service_core.specs.Service.{AnswersPlan, HasHead};
 
 use crate::Core;
 use buffer_ring::FrameStore;
 use ca_base::values::{KIND_CALL, KIND_DEVICE, KIND_HANGUP, KIND_OPEN, KIND_PERIOD};
-use ca_base::{Hr, NoMemory};
-use ca_model::{Event, Reply};
+use ca_base::{Bytes, ConnNo, Hr, NoMemory};
+use ca_model::{Call, Event, Reply};
 use call_wire::Desk;
 use device_io::Devices;
-use service_board::{Payload, REPLY_ROOM};
+use reply_payload::{Payload, REPLY_ROOM};
 
 /// Begins the reply to an event: its kind, its connection and its tag.
 fn begin(ev: &Event, out: &mut Reply)
@@ -41,37 +42,70 @@ fn begin(ev: &Event, out: &mut Reply)
     }
 }
 
-/// Ends a reply with what the event is answered: the code and the payload.
-fn fill(answer: Result<Payload, Hr>, out: &mut Reply)
-    requires empty { out.old.payload.list ≡ [] }
-    requires room { REPLY_ROOM ≤ out.old.payload.capacity }
-    ensures head { HasSameHead out.old out.new }
-    ensures code { out.new.result ≡ code_of answer }
-    ensures payload { out.new.payload.list ≡ payload_of answer }
-    ensures within { length out.new.payload.list ≤ REPLY_ROOM }
-    ensures keeps { out.old.payload.capacity ≤ out.new.payload.capacity }
+/// Puts what an event is answered into a payload, and answers its code.
+fn put(answer: Result<Payload, Hr>, payload: &mut Bytes) -> Hr
+    requires empty { payload.old.list ≡ [] }
+    requires room { REPLY_ROOM ≤ payload.old.capacity }
+    ensures code { result ≡ code_of answer }
+    ensures payload { payload.new.list ≡ payload_of answer }
+    ensures within { length payload.new.list ≤ REPLY_ROOM }
+    ensures keeps { payload.old.capacity ≤ payload.new.capacity }
 {
     match answer {
-        Ok(payload) => {
-            out.result = payload.code();
-            payload.put(&mut out.payload);
+        Ok(answer) => {
+            answer.put(payload);
+            answer.code()
         }
-        Err(code) => out.result = code,
+        Err(code) => code,
+    }
+}
+
+/// The code of a call that puts its payload itself.
+fn told_code(answer: Result<(), Hr>) -> Hr
+    ensures { result ≡ told_code answer }
+{
+    match answer {
+        Ok(()) => Hr::S_OK,
+        Err(code) => code,
     }
 }
 
 impl<D: Devices, F: FrameStore> Core<D, F> {
-    /// Answers an event: its payload, or the code that refuses it.
-    fn answer(&mut self, ev: &Event) -> Result<Payload, Hr>
-        ensures { AnswersPlan D.faults D.told (λ st. plan st ev.now) (code_of result) (payload_of result)
+    /// Answers a call: its code, and its payload.
+    fn answer_call(&mut self, conn: ConnNo, call: &Call, payload: &mut Bytes) -> Hr
+        requires empty { payload.old.list ≡ [] }
+        requires room { REPLY_ROOM ≤ payload.old.capacity }
+        ensures answers { AnswersPlan D.faults D.told (λ st. call_plan st conn.0 call.now) result payload.new.list
             self.old self.new }
+        ensures within { length payload.new.list ≤ REPLY_ROOM }
+        ensures keeps { payload.old.capacity ≤ payload.new.capacity }
+    {
+        match call {
+            Call::EnumSessions { endpoint } => {
+                told_code(self.board.enum_sessions(conn, *endpoint, payload))
+            }
+            Call::GetSession { session } => {
+                told_code(self.board.get_session(conn, *session, payload))
+            }
+            _ => put(self.call(conn, call), payload),
+        }
+    }
+
+    /// Answers an event: its code, and its payload.
+    fn answer(&mut self, ev: &Event, payload: &mut Bytes) -> Hr
+        requires empty { payload.old.list ≡ [] }
+        requires room { REPLY_ROOM ≤ payload.old.capacity }
+        ensures answers { AnswersPlan D.faults D.told (λ st. plan st ev.now) result payload.new.list
+            self.old self.new }
+        ensures within { length payload.new.list ≤ REPLY_ROOM }
+        ensures keeps { payload.old.capacity ≤ payload.new.capacity }
     {
         match ev {
-            Event::Open { conn, pid, name } => self.open(*conn, *pid, name),
-            Event::Hangup { conn } => self.hangup(*conn),
-            Event::Call { conn, call, .. } => self.call(*conn, call),
-            Event::Period { endpoint } => self.period(*endpoint),
-            Event::Device { event } => self.device(event),
+            Event::Open { conn, pid, name } => put(self.open(*conn, *pid, name), payload),
+            Event::Hangup { conn } => put(self.hangup(*conn), payload),
+            Event::Call { conn, call, .. } => self.answer_call(*conn, call, payload),
+            Event::Period { endpoint } => put(self.period(*endpoint), payload),
+            Event::Device { event } => put(self.device(event), payload),
         }
     }
 }
@@ -81,12 +115,12 @@ impl<D: Devices, F: FrameStore> Desk for Core<D, F> {
 
     ghost stays = { λ old new. new ≡ old };
 
-    ghost reply_room = { λ _ _. 42 };
+    ghost reply_room = { λ _ _. REPLY_ROOM };
 
     fn ask(&mut self, ev: &Event, out: &mut Reply) -> Result<(), NoMemory> {
         out.payload.reserve(REPLY_ROOM)?;
         begin(ev, out);
-        fill(self.answer(ev), out);
+        out.result = self.answer(ev, &mut out.payload);
         Ok(())
     }
 }

@@ -14,7 +14,7 @@ mod tally;
 mod totals;
 
 pub use both_ends::BothEnds;
+pub use reply_payload::{Payload, REPLY_ROOM};
 pub use service::Core;
-pub use service_board::{Payload, REPLY_ROOM};
 pub use tally::Tally;
 pub use totals::Totals;

@@ -6,7 +6,7 @@ ghost use Rattle.service_core.specs.Counting.{after_taking};
 ghost use Rattle.service_core.specs.Service.{tally_of};
 
 use ca_base::Hr;
-use service_board::Payload;
+use reply_payload::Payload;
 
 /// How many frames were rendered, reset and dropped. Each count saturates.
 #[derive(Clone, Copy, Debug, PartialEq, Eq)]

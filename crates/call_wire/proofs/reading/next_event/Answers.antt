@@ -4,7 +4,7 @@ use Rattle.ca_base.specs.declared.limits.TheConstants.{LENGTH_SIZE}
 use Rattle.ca_model.specs.Spelling.{stated_length}
 use Rattle.call_wire.specs.Next.{IsWhole, stated_body}
 use Rattle.call_wire.specs.Reading.{read_body}
-use Rattle.call_wire.proofs.Frames.{event_read, none_read}
+use Rattle.call_wire.proofs.Frames.{event_read, none_read, never_valid}
 use Rattle.call_wire.proofs.reading.next_event.Goals as goal
 
 -- the stated length and body, as the code finds them
@@ -28,6 +28,15 @@ returns-in-Ok c =
     let read = ap read_body (sym body) ∙ c.in-Ok.ensures.1 in
     let event = event_read c.in-Ok.event bs (λ i. omega (arith, c.type_inv.bytes i)) whole c.in-Ok.ensures.0 read in
     (event.0, long, ap (λ (k : ℕ). take (LENGTH_SIZE + k) bs) is ∙ event.1)
+
+pub returns-then-length-eq0 : goal.returns-then-length-eq0
+returns-then-length-eq0 c =
+    let bs = c.args.bytes.now in
+    let n = c.from_le_bytes-length.result in
+    let front = c.in-Some.ensures.cases in
+    let is : n ≡ stated_length bs = stated bs c.in-Some.length.now n front.0 c.from_le_bytes-length.ensures in
+    let long : LENGTH_SIZE ≤ length bs = omega (arith, front.2) in
+    never_valid bs long (λ some valid. omega (arith, is, some, valid, c.then-length-eq0.either))
 
 pub returns-in-Err-Malformed : goal.returns-in-Err-Malformed
 returns-in-Err-Malformed c =

@@ -2,7 +2,7 @@ use Rattle.ca_model.specs.declared.event.Call.TheVariants as call
 use Rattle.ca_model.specs.declared.event.Event.TheVariants as event
 use Rattle.ca_machine.specs.Clients.{release_plan}
 use Rattle.service_board.specs.Does.{AnyData}
-use Rattle.service_board.specs.Answers.{code_of, payload_of}
+use Rattle.reply_payload.specs.Answers.{code_of, payload_of}
 use Rattle.service_core.specs.Core.{core_state}
 use Rattle.service_core.proofs.CoreCounted.{counted_core, counted_dropped, gone, rises}
 use Rattle.service_core.proofs.EventsFall.{keeps_event}

@@ -3,13 +3,18 @@ use Rattle.ca_model.specs.declared.event.Call.TheVariants as call
 use Rattle.ca_model.specs.declared.event.Event.TheVariants as event
 use Rattle.ca_machine.specs.Streams.{reset_plan}
 use Rattle.service_board.specs.StreamCalls.{IsLeased}
-use Rattle.service_board.specs.Answers.{code_of, payload_of}
+use Rattle.reply_payload.specs.Answers.{code_of, payload_of}
 use Rattle.service_core.specs.Core.{core_state}
 use Rattle.service_core.proofs.CoreCounted.{counted_core, counted_reset, rises}
 use Rattle.service_core.proofs.EventsFall.{keeps_event}
 use Rattle.service_core.proofs.TallyOutcomes.{reset_outcome}
 use Rattle.service_core.proofs.PendingWords.{around_order}
 use Rattle.service_core.proofs.counting.counted_reset.Goals as goal
+
+pub has_lease-leased-requires : goal.has_lease-leased-requires
+has_lease-leased-requires g c =
+    around_order g.F.FrameStore.kept g.F.EngineSide.state g.met.F.FrameStore.whole c.args.board.now
+    c.pending-before.new.board c.pending-before.ensures.looked c.requires.order
 
 pub reset-answer-requires : goal.reset-answer-requires
 reset-answer-requires g c = record {

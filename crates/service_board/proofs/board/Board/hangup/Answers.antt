@@ -1,14 +1,18 @@
-use Rattle.std.proofs.Common.{[], None, filter, not, refl, ap}
+use Rattle.std.proofs.Common.{[], None, filter, map, nat_eq, not, refl, sym, ap, subst}
+use Rattle.std.proofs.lemmas.List.Elements.{All-filter}
+use Rattle.std.specs.List.{All, IsDistinct}
 use Rattle.std.proofs.lemmas.Result.{err_from_is_err_and}
 use Rattle.ca_base.specs.declared.codes.TheConstants.Hr as hr
 use Rattle.ca_stage.specs.Tally.{tally_after}
+use Rattle.ca_machine.specs.declared.state.Connection.{Connection}
 use Rattle.ca_machine.specs.State.{is_connection}
 use Rattle.ca_machine.specs.Clients.{closes, hangup_plan, is_client_on}
 use Rattle.service_board.specs.Does.{AnyData}
+use Rattle.service_board.specs.InOrder.{IsOpen}
 use Rattle.service_board.proofs.Doing.{refused_does}
 use Rattle.service_board.proofs.Granting.{granted_does}
 use Rattle.service_board.proofs.LeavingState.{are_closed, leaving_made, leaving_steps, none_closed, state_left}
-use Rattle.service_board.proofs.LeavingOrder.{order_left}
+use Rattle.service_board.proofs.LeavingOrder.{apart_left, order_left}
 use Rattle.service_board.proofs.board.Board.hangup.Goals as goal
 
 pub returns-in_err-connected-clause-does : goal.returns-in_err-connected-clause-does
@@ -57,9 +61,15 @@ returns-clause-order g c =
       connections = c.drop_connection.new.connections;
       clients = c.drop_clients.new.clients;
     } in
+    let others = λ (x : Connection). not (is_connection c.args.conn.0 x) in
+    let left = c.drop_connection.ensures.left in
     order_left g.E.EngineSide.state g.E.EngineSide.moves old c.forget_gone.new.self book c.requires.order
     (is_client_on c.args.conn.0) c.forget_gone.ensures c.drop_clients.ensures.left c.drop_clients.ensures.room
     c.drop_connection.ensures.room
+    (subst (λ cs. IsDistinct nat_eq (map (λ (x : Connection). x.conn.0) cs)) (sym left)
+    (apart_left others old.book.connections.items c.requires.order.book.apart))
+    (subst (All IsOpen) (sym left)
+    (All-filter others IsOpen old.book.connections.items c.requires.order.book.opens))
 
 pub returns-clause-closed : goal.returns-clause-closed
 returns-clause-closed g c =

@@ -3,7 +3,7 @@ use Rattle.std.specs.List.{insert, position_or_len}
 use Rattle.std.proofs.lemmas.List.Sums.{prefix_len-le-length}
 use Rattle.service_board.specs.Openings.{IsFresh, IsNewStore, is_above}
 use Rattle.service_board.proofs.Opened.{no_memory_does, opened_does}
-use Rattle.service_board.proofs.OpenedOrder.{has_room, opened_order}
+use Rattle.service_board.proofs.OpenedOrder.{has_room, key_fits, opened_order}
 use Rattle.service_board.proofs.Places.{place_splits}
 use Rattle.service_board.proofs.board.Board.initialize.Goals as goal
 
@@ -11,6 +11,10 @@ pub returns-in_default-clause-does : goal.returns-in_default-clause-does
 returns-in_default-clause-does g c =
     no_memory_does c.args.x.now c.args.self.now c.args.plan.now c.requires.planned g.D.Devices.faults g.D.Devices.told
     g.E.EngineSide.moves g.met.E.EngineSide.none c.args.store (IsFresh c.args.x.now.client.0)
+
+pub join-session-requires-clause-name : goal.join-session-requires-clause-name
+join-session-requires-clause-name g c =
+    key_fits c.args.x.now c.args.self.now c.args.plan.now c.requires.planned c.requires.order.book
 
 pub insert-requires : goal.insert-requires
 insert-requires g c =

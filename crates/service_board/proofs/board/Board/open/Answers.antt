@@ -5,7 +5,7 @@ use Rattle.ca_machine.specs.Clients.{open_plan}
 use Rattle.service_board.specs.Does.{AnyData}
 use Rattle.service_board.proofs.Doing.{refused_does}
 use Rattle.service_board.proofs.Granting.{book_does}
-use Rattle.service_board.proofs.Connecting.{free_to_open, open_grants}
+use Rattle.service_board.proofs.Connecting.{free_to_open, open_grants, open_order}
 use Rattle.service_board.proofs.board.Board.open.Goals as goal
 
 pub returns-in_err-check_open-clause-does : goal.returns-in_err-check_open-clause-does
@@ -17,7 +17,8 @@ returns-in_err-check_open-clause-does g c =
 
 pub unreachable-requires : goal.unreachable-requires
 unreachable-requires g c =
-    let free = free_to_open c.args.self.now c.args.conn.0 c.args.process c.args.name.now c.in_ok-check_open.ensures in
+    let free = free_to_open c.args.self.now c.args.conn.0 c.args.process c.args.name.now c.in_ok-check_open.ensures
+    c.requires.order.book in
     omega (arith, free, c.in-Err.ensures.full)
 
 pub returns-clause-does : goal.returns-clause-does
@@ -27,3 +28,9 @@ returns-clause-does g c =
     c.args.self.now book (λ st. open_plan st c.args.conn.0 c.args.process c.args.name.now) hr.S_OK []
     (open_grants c.args.self.now c.args.conn.0 c.args.process c.args.name.now c.in_ok-check_open.ensures book refl
     c.in-Ok.ensures.items)
+
+pub returns-clause-order : goal.returns-clause-order
+returns-clause-order g c =
+    open_order c.args.self.now c.args.conn.0 c.args.process c.args.name.now c.in_ok-check_open.ensures
+    g.E.EngineSide.state c.requires.order (record (c.args.self.now.book) { connections = c.push.new.self })
+    c.in-Ok.ensures.items c.push.ensures.capacity

@@ -31,5 +31,11 @@ returns-in-GetService-clause-does g c = rw c.in-GetService.is c.get_service.ensu
 pub returns-in-GetPosition-clause-does : goal.returns-in-GetPosition-clause-does
 returns-in-GetPosition-clause-does g c = rw c.in-GetPosition.is c.get_position.ensures.does
 
+pub returns-in-GetStreamLevel-clause-does : goal.returns-in-GetStreamLevel-clause-does
+returns-in-GetStreamLevel-clause-does g c = rw c.in-GetStreamLevel.is c.get_stream_level.ensures.does
+
+pub returns-in-SetStreamLevel-clause-does : goal.returns-in-SetStreamLevel-clause-does
+returns-in-SetStreamLevel-clause-does g c = rw c.in-SetStreamLevel.is c.set_stream_level.ensures.does
+
 pub returns-in-Other-clause-does : goal.returns-in-Other-clause-does
 returns-in-Other-clause-does g c = rw c.in-Other.is c.unlisted_call.ensures

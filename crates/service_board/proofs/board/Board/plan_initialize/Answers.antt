@@ -1,6 +1,10 @@
-use Rattle.std.proofs.Common.{None, sym}
+use Rattle.std.proofs.Common.{Some, None, sym, ap, ◌∙◌}
 use Rattle.std.proofs.lemmas.Result.{err_from_is_err_and}
 use Rattle.ca_base.specs.declared.codes.TheConstants.Hr as hr
+use Rattle.ca_base.specs.Rows.{first}
+use Rattle.session_manager.specs.Rows.{join_rows}
+use Rattle.ca_machine.specs.State.{is_connection}
+use Rattle.service_board.proofs.Joining.{found_there}
 use Rattle.service_board.proofs.Planning.{
   at_arguments,
   at_control,
@@ -41,7 +45,7 @@ returns-in_err-check_later-clause-refused g c =
     rw (p.1, p.2) (opening_refused g.D.Devices.faults g.D.Devices.told g.E.EngineSide.moves g.met.E.EngineSide.none
     c.args.self.now c.args.x.now c.in_err-check_later.field-0.0
     (at_later c.args.self.now c.args.x.now c.in_err-check_later.field-0.0 c.in_err-check_later.ensures
-    (connected_says c.args.self.now c.args.x.now c.in-Some.process c.in-Some.ensures)))
+    (connected_says c.args.self.now c.args.x.now c.in-Some.from c.in-Some.ensures)))
 
 pub returns-in_err-place-clause-refused : goal.returns-in_err-place-clause-refused
 returns-in_err-place-clause-refused g c =
@@ -50,7 +54,7 @@ returns-in_err-place-clause-refused g c =
     c.args.self.now c.args.x.now c.in_err-place.field-0.0
     (at_endpoint c.args.self.now c.args.x.now c.in_err-place.field-0.0 c.in_err-place.ensures.refused
     (past_later c.args.self.now c.args.x.now
-    (connected_says c.args.self.now c.args.x.now c.in-Some.process c.in-Some.ensures) c.in_ok-check_later.ensures)))
+    (connected_says c.args.self.now c.args.x.now c.in-Some.from c.in-Some.ensures) c.in_ok-check_later.ensures)))
 
 pub returns-then-is_some-clause-refused : goal.returns-then-is_some-clause-refused
 returns-then-is_some-clause-refused g c =
@@ -60,7 +64,7 @@ returns-then-is_some-clause-refused g c =
     (stream_refuses c.args.self.now c.args.x.now c.entry_place.result c.entry_place.ensures (sym c.if-is_some.ensures))
     (past_endpoint c.args.self.now c.args.x.now c.in_ok-place.place c.in_ok-place.ensures.found
     (past_later c.args.self.now c.args.x.now
-    (connected_says c.args.self.now c.args.x.now c.in-Some.process c.in-Some.ensures) c.in_ok-check_later.ensures)))
+    (connected_says c.args.self.now c.args.x.now c.in-Some.from c.in-Some.ensures) c.in_ok-check_later.ensures)))
 
 pub returns-in_err-check_arguments-clause-refused :
     goal.returns-in_err-check_arguments-clause-refused
@@ -75,7 +79,7 @@ returns-in_err-check_arguments-clause-refused g c =
     (at_arguments b x c.in_err-check_arguments.field-0.0 c.in_err-check_arguments.ensures
     (past_stream b x none
     (past_endpoint b x c.in_ok-place.place c.in_ok-place.ensures.found
-    (past_later b x (connected_says b x c.in-Some.process c.in-Some.ensures) c.in_ok-check_later.ensures)))))
+    (past_later b x (connected_says b x c.in-Some.from c.in-Some.ensures) c.in_ok-check_later.ensures)))))
 
 pub index-endpoint-requires : goal.index-endpoint-requires
 index-endpoint-requires g c = within c.args.self.now c.args.x.now c.in_ok-place.place c.in_ok-place.ensures.found
@@ -92,13 +96,14 @@ returns-in_err-format-clause-refused g c =
     let none = no_entry b x c.entry_place.result c.entry_place.ensures (sym c.if-is_some.ensures) in
     rw (p.1, p.2) (opening_refused g.D.Devices.faults g.D.Devices.told g.E.EngineSide.moves g.met.E.EngineSide.none b x
     c.in_err-format.field-0.0
-    (at_format b x c.in_err-format.field-0.0 (format_says b x at found e same _ c.in_err-format.ensures.says)
-    (past_five b x c.in-Some.process at c.in-Some.ensures c.in_ok-check_later.ensures found none
+    (at_format b x c.in_err-format.field-0.0 (format_says b x at found e same (Some c.in_err-format.field-0.0) c.in_err-format.ensures.says)
+    (past_five b x c.in-Some.from at c.in-Some.ensures c.in_ok-check_later.ensures found none
     c.in_ok-check_arguments.ensures)))
 
-pub returns-in_err-session-clause-refused : goal.returns-in_err-session-clause-refused
-returns-in_err-session-clause-refused g c =
-    let p = err_from_is_err_and c.from_residual-in_err-session.result c.from_residual-in_err-session.ensures.1 in
+pub returns-in_err-check_join-clause-refused : goal.returns-in_err-check_join-clause-refused
+returns-in_err-check_join-clause-refused g c =
+    let p = err_from_is_err_and c.from_residual-in_err-check_join.result
+    c.from_residual-in_err-check_join.ensures.1 in
     let b = c.args.self.now in
     let x = c.args.x.now in
     let at = c.in_ok-place.place in
@@ -106,12 +111,17 @@ returns-in_err-session-clause-refused g c =
     let e = c.index-endpoint.result.now in
     let same = read_endpoint b x at found e c.index-endpoint.ensures in
     let none = no_entry b x c.entry_place.result c.entry_place.ensures (sym c.if-is_some.ensures) in
+    let k = c.index.result.now in
+    let there = found_there (is_connection x.conn.0) b.book.connections.items c.in-Some.from k c.in-Some.ensures
+    c.index.ensures in
     rw (p.1, p.2) (opening_refused g.D.Devices.faults g.D.Devices.told g.E.EngineSide.moves g.met.E.EngineSide.none b x
-    c.in_err-session.field-0.0
-    (at_session b x c.in_err-session.field-0.0
-    (session_says b x at found e same c.in-Some.process c.in-Some.ensures _ c.in_err-session.ensures.says)
+    c.in_err-check_join.field-0.0
+    (at_session b x c.in_err-check_join.field-0.0
+    (session_says b x at found e same k there (Some c.in_err-check_join.field-0.0)
+    (ap (λ key. first (join_rows key b.book.sessions)) (sym c.session_key-key.ensures)
+    ∙ sym c.in_err-check_join.ensures.says))
     (past_format b x (format_says b x at found e same None c.in_ok-format.ensures.says)
-    (past_five b x c.in-Some.process at c.in-Some.ensures c.in_ok-check_later.ensures found none
+    (past_five b x c.in-Some.from at c.in-Some.ensures c.in_ok-check_later.ensures found none
     c.in_ok-check_arguments.ensures))))
 
 pub returns-clause-planned : goal.returns-clause-planned
@@ -123,6 +133,9 @@ returns-clause-planned g c =
     let e = c.index-endpoint.result.now in
     let same = read_endpoint b x at found e c.index-endpoint.ensures in
     let none = no_entry b x c.entry_place.result c.entry_place.ensures (sym c.if-is_some.ensures) in
+    let k = c.index.result.now in
+    let there = found_there (is_connection x.conn.0) b.book.connections.items c.in-Some.from k c.in-Some.ensures
+    c.index.ensures in
     record {
       named = found.named;
       found = found.found;
@@ -131,15 +144,19 @@ returns-clause-planned g c =
       endpoint = e;
       there = there_read b x at found e same;
       fresh = none;
-      process = sym c.in-Some.ensures;
+      connection = k;
+      connected = there;
+      key = c.session_key-key.ensures;
       format = c.in_ok-format.ensures.format;
       buffer = c.shared_buffer.ensures.frames;
       some = c.shared_buffer.ensures.some;
       most = c.shared_buffer.ensures.most;
-      session = c.in_ok-session.ensures.session;
+      joins = sym c.in_ok-check_join.ensures.says;
       says = past_session b x
-          (session_says b x at found e same c.in-Some.process c.in-Some.ensures None c.in_ok-session.ensures.says)
+          (session_says b x at found e same k there None
+          (ap (λ key. first (join_rows key b.book.sessions)) (sym c.session_key-key.ensures)
+          ∙ sym c.in_ok-check_join.ensures.says))
           (past_format b x (format_says b x at found e same None c.in_ok-format.ensures.says)
-          (past_five b x c.in-Some.process at c.in-Some.ensures c.in_ok-check_later.ensures found none
+          (past_five b x c.in-Some.from at c.in-Some.ensures c.in_ok-check_later.ensures found none
           c.in_ok-check_arguments.ensures));
     }

@@ -52,7 +52,7 @@ returns-clause-order g c =
     order_left g.E.EngineSide.state g.E.EngineSide.moves old c.forget_gone.new.self
     (record (old.book) { clients = c.drop_client.new.clients }) c.requires.order
     (is_client_of c.args.conn.0 c.args.client.0) c.forget_gone.ensures c.drop_client.ensures.left
-    c.drop_client.ensures.room refl
+    c.drop_client.ensures.room refl c.requires.order.book.apart c.requires.order.book.opens
 
 pub returns-clause-closed : goal.returns-clause-closed
 returns-clause-closed g c =

@@ -2,7 +2,7 @@ use Rattle.ca_model.specs.declared.event.DeviceEvent.TheVariants as device
 use Rattle.ca_model.specs.declared.event.Event.TheVariants as event
 use Rattle.ca_machine.specs.Devices.{add_plan}
 use Rattle.ca_machine.specs.Step.{unlisted_device_plan}
-use Rattle.service_board.specs.Answers.{code_of, payload_of}
+use Rattle.reply_payload.specs.Answers.{code_of, payload_of}
 use Rattle.service_board.specs.Does.{AnyData}
 use Rattle.service_core.specs.Service.{tally_of}
 use Rattle.service_core.proofs.CoreAnswers.{answers_unchanged, answers_viewed, board_core, board_still}

@@ -4,7 +4,7 @@ use Rattle.ca_model.specs.declared.event.Call.TheVariants as call
 use Rattle.ca_model.specs.declared.event.Event.TheVariants as event
 use Rattle.ca_machine.specs.State.{State}
 use Rattle.service_board.specs.declared.opening.Opening.{Opening}
-use Rattle.service_board.specs.Answers.{code_of, payload_of}
+use Rattle.reply_payload.specs.Answers.{code_of, payload_of}
 use Rattle.service_board.specs.Does.{AnyData}
 use Rattle.service_board.specs.Openings.{IsFresh, arguments, opening_plan}
 use Rattle.service_core.specs.Service.{AnswersPlan, tally_of}
@@ -12,7 +12,7 @@ use Rattle.service_core.proofs.CoreAnswers.{answers_viewed, board_still}
 use Rattle.service_core.proofs.CoreCounts.{goes_still}
 use Rattle.service_core.proofs.CoreSteps.{core_goes}
 use Rattle.service_core.proofs.EventsFall.{Keeps, keeps_event}
-use Rattle.service_core.proofs.NewSides.{given_is_fresh, no_entry_data, sides_initialized}
+use Rattle.service_core.proofs.NewSides.{given_is_fresh, given_is_new, no_entry_data, sides_initialized}
 use Rattle.service_core.proofs.TallyStays.{tally_of_initialize}
 use Rattle.service_core.proofs.service.Core.initialize.Goals as goal
 
@@ -38,6 +38,11 @@ returns-in_err-plan g c =
     g.met.F.FrameStore.exact old.board old.board c.self.invariant c.self.invariant.order (opening_plan x) code []
     (keeps x) AnyData c.in_err-plan.ensures.refused tt
     (λ st. tally_of_initialize st x.conn.0 x.client.0 (arguments x)) (tally_of old.tally))))
+
+pub initialize-requires-clause-store : goal.initialize-requires-clause-store
+initialize-requires-clause-store g c =
+    given_is_new g.F.FrameStore.kept g.F.EngineSide.state g.met.F.FrameStore.whole c.in_ok-plan.plan
+    c.new_ends-ends.result c.new_ends-ends.ensures
 
 pub invariant_of-self : goal.invariant_of-self
 invariant_of-self g c = record {

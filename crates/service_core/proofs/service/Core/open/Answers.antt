@@ -1,6 +1,6 @@
 use Rattle.ca_model.specs.declared.event.Event.TheVariants as event
 use Rattle.ca_machine.specs.Clients.{open_plan}
-use Rattle.service_board.specs.Answers.{code_of, payload_of}
+use Rattle.reply_payload.specs.Answers.{code_of, payload_of}
 use Rattle.service_board.specs.Does.{AnyData}
 use Rattle.service_core.specs.Service.{tally_of}
 use Rattle.service_core.proofs.CoreAnswers.{answers_viewed, board_core, board_still}

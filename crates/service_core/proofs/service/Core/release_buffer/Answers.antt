@@ -1,5 +1,5 @@
 use Rattle.ca_machine.specs.Data.{release_buffer_plan}
-use Rattle.service_board.specs.Answers.{code_of, payload_of}
+use Rattle.reply_payload.specs.Answers.{code_of, payload_of}
 use Rattle.service_core.specs.Service.{tally_of}
 use Rattle.service_core.proofs.CoreAnswers.{answers_viewed}
 use Rattle.service_core.proofs.CoreCounts.{goes_still}

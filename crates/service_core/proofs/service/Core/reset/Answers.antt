@@ -1,6 +1,6 @@
 use Rattle.std.proofs.Common.{sym, ap, subst, arith}
 use Rattle.ca_machine.specs.Streams.{reset_plan}
-use Rattle.service_board.specs.Answers.{code_of, payload_of}
+use Rattle.reply_payload.specs.Answers.{code_of, payload_of}
 use Rattle.service_core.specs.Core.{GoesTo}
 use Rattle.service_core.specs.Service.{tally_of}
 use Rattle.service_core.proofs.CoreAnswers.{answers_viewed, counts_fit}

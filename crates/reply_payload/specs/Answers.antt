@@ -4,8 +4,8 @@ use Rattle.std.specs.Int.{w32, w64, to_le_bytes}
 use Rattle.ca_base.specs.declared.codes.Hr.{Hr}
 use Rattle.ca_base.specs.declared.codes.TheConstants.Hr as hr
 use Rattle.ca_machine.specs.Streams.{format_payload}
-use Rattle.service_board.specs.declared.payload.Payload.{Payload}
-use Rattle.service_board.specs.declared.payload.Payload.TheVariants as payload
+use Rattle.reply_payload.specs.declared.payload.Payload.{Payload}
+use Rattle.reply_payload.specs.declared.payload.Payload.TheVariants as payload
 
 -- the bytes of a payload
 abbrev pub payload_bytes : Payload → List ℕ
@@ -30,6 +30,11 @@ code_of (Err code) = code
 abbrev pub payload_of : Result Payload Hr → List ℕ
 payload_of (Ok p) = payload_bytes p
 payload_of (Err code) = []
+
+-- the code of a call that puts its payload itself
+abbrev pub told_code : Result (Unit {0}) Hr → Hr
+told_code (Ok u) = hr.S_OK
+told_code (Err code) = code
 
 -- a period's answer
 abbrev pub IsPeriod : Payload → Type 0

@@ -3,13 +3,15 @@
 ghost use Rattle.std.specs.Prelude.{◌≡◌, ◌+◌, ◌≤◌, [], ◌∷◌, ◌++◌, length, if◌then◌else◌};
 ghost use Rattle.std.specs.Int.{to_le_bytes, w32};
 ghost use Rattle.ca_machine.specs.Streams.{format_payload};
-ghost use Rattle.service_board.specs.Answers.{is_failure, payload_bytes, payload_code};
+ghost use Rattle.reply_payload.specs.Answers.{is_failure, payload_bytes, payload_code};
 
+use ca_base::limits::MAX_TEXT;
 use ca_base::{Bytes, Hr};
 use wave_format::{Format, format_length, write_format};
 
-/// The longest payload of a reply, in bytes: a format's two bytes of length, and its 40 bytes.
-pub const REPLY_ROOM: usize = 42;
+/// The longest payload of a reply, in bytes: a session's data. 55 are numbers, and each of four texts has two bytes of
+/// length.
+pub const REPLY_ROOM: usize = 55 + 4 * (2 + MAX_TEXT);
 
 /// The payload of a granted call.
 #[derive(Clone, Copy, Debug, PartialEq, Eq)]
@@ -31,7 +33,7 @@ pub enum Payload {
 }
 
 /// Adds bytes that fit without asking for memory.
-fn add(out: &mut Bytes, bytes: &[u8])
+pub fn add(out: &mut Bytes, bytes: &[u8])
     requires { length out.old.list + length bytes.now ≤ out.old.capacity }
     ensures list { out.new.list ≡ out.old.list ++ bytes.now }
     ensures keeps { out.old.capacity ≤ out.new.capacity }
