@@ -31,11 +31,10 @@ is_name bytes =
     nat_lt 0 (length bytes) && (nat_le (length bytes) MAX_CONNECTION_NAME && list_all is_name_byte bytes)
 
 abbrev pub open_rows : State → ℕ → ℕ → List ℕ → List (Row Hr)
-open_rows st conn process name =
-    (
-      not (nat_le 1 conn && nat_le conn CONNECTIONS) || (is_connected conn st || (process == 0 || not (is_name name))),
-      hr.E_INVALIDARG,
-    )
+open_rows st conn process name = (
+  not (nat_le 1 conn && nat_le conn CONNECTIONS) || (is_connected conn st || (process == 0 || not (is_name name))),
+  hr.E_INVALIDARG,
+)
     ∷ []
 
 abbrev pub new_connection : ℕ → ℕ → List ℕ → Connection

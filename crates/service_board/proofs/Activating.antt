@@ -2,11 +2,11 @@
 use Rattle.std.proofs.Common.{◌≡◌, ℕ, suc, ◌+◌, ◌<◌, ◌≤◌, List, [], ◌∷◌, ◌++◌, length, not, Bool, true, false}
 use Rattle.std.proofs.Common.{Option, Some, None, refl, sym, ap, ◌∙◌, ◌==◌, nat_le, arith, get_or, is_none}
 use Rattle.std.proofs.Common.{subst, length-append}
-use Rattle.std.proofs.lemmas.Bool.{leb-false}
+use Rattle.std.proofs.lemmas.Bool.{leb-false, not-false}
 use Rattle.std.proofs.lemmas.Option.{get_or_from_slice_get}
 use Rattle.std.proofs.lemmas.List.Elements.{All-from_recursion, All-head, All-push, All-tail, All-weaker}
 use Rattle.std.specs.Vec.{vec_capacity}
-use Rattle.std.specs.List.{All, find, position}
+use Rattle.std.specs.List.{All, find, list_any, position}
 use Rattle.std.specs.Int.{w64, to_le_bytes}
 use Rattle.ca_base.specs.declared.codes.Hr.{Hr}
 use Rattle.ca_base.specs.declared.codes.TheConstants.Hr as hr
@@ -19,13 +19,13 @@ use Rattle.ca_stage.specs.Order.{RisesFrom}
 use Rattle.ca_stage.proofs.Lists.{find-append, first_of_two}
 use Rattle.ca_machine.specs.declared.state.Client.{Client}
 use Rattle.ca_machine.specs.declared.state.Endpoint.{Endpoint}
-use Rattle.ca_machine.specs.State.{State, endpoint_at, is_endpoint, live_clients}
+use Rattle.ca_machine.specs.State.{State, endpoint_at, is_connection, is_endpoint, live_clients}
 use Rattle.ca_machine.specs.SharedRows.{control_rows, is_inactive}
 use Rattle.ca_machine.specs.Clients.{activate_plan, activate_rows, is_role, new_client}
 use Rattle.buffer_ring.specs.declared.step.EndState.{EndState}
 use Rattle.period_engine.specs.declared.entry.StreamEntry.{StreamEntry}
 use Rattle.service_board.specs.Board.{state_of}
-use Rattle.service_board.specs.InOrder.{Belongs, HasLevels, InOrder, IsBook}
+use Rattle.service_board.specs.InOrder.{Belongs, HasLevels, InOrder, IsBook, IsOwned}
 use Rattle.service_board.specs.Lookups.{Says}
 use Rattle.service_board.specs.declared.board.Board.{Board}
 use Rattle.service_board.specs.declared.book.Book.{Book}
@@ -119,6 +119,12 @@ module _ {D E : Type 0} (b : Board D E) (conn endpoint role : ℕ)
       let count = row_fails (nat_le MAX_COUNT b.book.clients_made) hr.WORN None room.1 in
       (leb-false CLIENTS (length b.book.clients.items) room.0, leb-false MAX_COUNT b.book.clients_made count.0)
 
+  -- the connection is open
+  pub client_owned : IsOwned b.book.connections.items (new_client (b.book.clients_made + 1) conn endpoint role)
+  client_owned =
+      not-false (list_any (is_connection conn) b.book.connections.items)
+      (row_fails _ hr.E_HANDLE _ (says (λ client. no_data) no_tally)).0
+
   pub activate_grants : (book : Book) →
       book ≡ record (b.book) { clients = book.clients; clients_made = b.book.clients_made + 1 } →
       book.clients.items
@@ -162,6 +168,7 @@ still_found test xs x more e =
 module _ {D E : Type 0} (state : E → EndState) (b : Board D E) (order : InOrder state b) (book : Book) (c : Client)
     (pushed : book.clients.items ≡ b.book.clients.items ++ c ∷ []) (number : c.client.0 ≡ b.book.clients_made + 1)
     (capacity : vec_capacity b.book.clients ≤ vec_capacity book.clients) (leveled : HasLevels c)
+    (connected : IsOwned b.book.connections.items c)
     (free : (length b.book.clients.items < CLIENTS) × (b.book.clients_made < MAX_COUNT)) where
   -- the book with the clients of the new one
   abbrev pub with_client : Book
@@ -196,6 +203,9 @@ module _ {D E : Type 0} (state : E → EndState) (b : Board D E) (order : InOrde
         added = old.added;
         levels =
             subst (All HasLevels) (sym pushed) (All-push HasLevels b.book.clients.items c old.levels leveled);
+        owned =
+            subst (All (IsOwned b.book.connections.items)) (sym pushed)
+            (All-push (IsOwned b.book.connections.items) b.book.clients.items c old.owned connected);
       }
 
   still_belongs : (e : StreamEntry E) → Belongs b.book b.seats.items e → Belongs with_client b.seats.items e

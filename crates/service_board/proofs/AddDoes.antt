@@ -235,6 +235,7 @@ module _ {D E : Type 0} (state : E → EndState) (b : Board D E) (order : InOrde
                 (All-weaker (λ (e : Endpoint). e.endpoint.0 ≤ b.book.last_endpoint) (λ e. e.endpoint.0 ≤ number)
                 (λ e le. omega arith) b.book.endpoints.items old.added) (omega (arith, number_is)));
             levels = old.levels;
+            owned = old.owned;
           }
 
       pub added_order : vec_capacity new.book.endpoints ≡ vec_capacity b.book.endpoints →

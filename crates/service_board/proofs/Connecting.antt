@@ -7,6 +7,7 @@ use Rattle.std.proofs.lemmas.Bool.{and_parts, leb-true, not-false, or_from, or_p
 use Rattle.std.proofs.lemmas.Bool.Decides.{nat_tests}
 use Rattle.std.proofs.lemmas.Cmp.{nat_eq_equiv}
 use Rattle.std.proofs.lemmas.List.{length-map, map-append}
+use Rattle.std.proofs.lemmas.List.Folds.{list_any-append}
 use Rattle.std.proofs.lemmas.List.Elements.{All-push, All-weaker, recursion_from_All}
 use Rattle.std.proofs.lemmas.Map.Keys.{IsDistinct-cons, IsDistinct-push}
 use Rattle.std.proofs.lemmas.Map.Steps.{length-le_from_distinct_below}
@@ -20,7 +21,7 @@ use Rattle.ca_machine.specs.State.{is_connection}
 use Rattle.ca_machine.specs.Clients.{is_name, is_name_byte, new_connection, open_plan, open_rows}
 use Rattle.period_engine.specs.declared.entry.StreamEntry.{StreamEntry}
 use Rattle.service_board.specs.Board.{state_of}
-use Rattle.service_board.specs.InOrder.{Belongs, InOrder, IsBook, IsOpen}
+use Rattle.service_board.specs.InOrder.{Belongs, InOrder, IsBook, IsOpen, IsOwned}
 use Rattle.service_board.specs.Lookups.{Says}
 use Rattle.service_board.specs.declared.board.Board.{Board}
 use Rattle.service_board.specs.declared.book.Book.{Book}
@@ -177,6 +178,14 @@ module _ {D E : Type 0} (b : Board D E) (conn process : ℕ) (name : List ℕ)
           endpoints = old.endpoints;
           added = old.added;
           levels = old.levels;
+          owned =
+              subst (λ cs. All (IsOwned cs) b.book.clients.items) (sym pushed)
+              (All-weaker (IsOwned b.book.connections.items)
+              (IsOwned (b.book.connections.items ++ new_connection conn process name ∷ []))
+              (λ c h.
+              list_any-append (is_connection c.conn.0) b.book.connections.items (new_connection conn process name ∷ [])
+              ∙ ap (λ v. v || list_any (is_connection c.conn.0) (new_connection conn process name ∷ [])) h)
+              b.book.clients.items old.owned);
         }
 
     still_belongs : (e : StreamEntry E) → Belongs b.book b.seats.items e → Belongs with_connection b.seats.items e

@@ -42,6 +42,7 @@ is_fresh_book book h = record {
   endpoints = h.endpoints;
   added = h.added;
   levels = h.levels;
+  owned = h.owned;
 }
 
 module _ {E : Type 0} (book : Book) where

@@ -1,10 +1,11 @@
 -- A board that clients left is in order.
 use Rattle.std.proofs.Common.{◌≡◌, ℕ, ◌≤◌, ◌==◌, nat_eq, not, List, [], ◌∷◌, length, map, filter, Bool, true, false, cond, refl}
-use Rattle.std.proofs.Common.{sym, ap, ◌∙◌, subst, find, arith}
+use Rattle.std.proofs.Common.{sym, ap, ◌∙◌, subst, find, arith, eqb-true}
 use Rattle.std.proofs.lemmas.List.Elements.{All-filter, All-from_recursion, recursion_from_All}
 use Rattle.std.specs.List.{All, AllByRecursion, IsDistinct}
 use Rattle.std.specs.Vec.{vec_capacity}
 use Rattle.std.proofs.lemmas.Bool.{true≢false}
+use Rattle.std.proofs.lemmas.Map.Views.{any-filter_same}
 use Rattle.std.proofs.lemmas.Map.Keys.{IsDistinct-cons, IsDistinct-head, IsDistinct-tail}
 use Rattle.ca_base.specs.declared.limits.TheConstants.{CLIENTS}
 use Rattle.buffer_ring.specs.declared.step.EndState.{EndState}
@@ -12,10 +13,11 @@ use Rattle.buffer_ring.specs.declared.step.Step.{Step}
 use Rattle.ca_stage.specs.Order.{RisesFrom}
 use Rattle.ca_machine.specs.declared.state.Client.{Client}
 use Rattle.ca_machine.specs.declared.state.Connection.{Connection}
-use Rattle.ca_machine.specs.State.{live_clients}
+use Rattle.ca_machine.specs.State.{is_connection, live_clients}
+use Rattle.ca_machine.specs.Clients.{is_client_on}
 use Rattle.period_engine.specs.declared.entry.StreamEntry.{StreamEntry}
 use Rattle.period_engine.specs.Entries.{IsRested}
-use Rattle.service_board.specs.InOrder.{Belongs, HasLevels, InOrder, IsBook, IsOpen}
+use Rattle.service_board.specs.InOrder.{Belongs, HasLevels, InOrder, IsBook, IsOpen, IsOwned}
 use Rattle.service_board.specs.Leaving.{Forgets, is_live, is_of_live}
 use Rattle.service_board.specs.declared.board.Board.{Board}
 use Rattle.service_board.specs.declared.book.Book.{Book}
@@ -59,13 +61,32 @@ apart_left p (c ∷ cs) h =
     by true other rest = IsDistinct-cons nat_eq c.conn.0 (map (λ d. d.conn.0) (filter p cs)) other rest
     by false other rest = rest
 
+-- the connections but one
+abbrev others : ℕ → List Connection → List Connection
+others conn cs = filter (λ c. not (is_connection conn c)) cs
+
+-- the clients that are left have their connections once one is gone with its clients
+pub owned_left : (conn : ℕ) (cs : List Connection) (clients : List Client) → All (IsOwned cs) clients →
+    All (IsOwned (others conn cs)) (filter (λ c. not (is_client_on conn c)) clients)
+owned_left conn cs clients all =
+    All-from_recursion (IsOwned (others conn cs)) (filter (λ c. not (is_client_on conn c)) clients)
+    (passing (λ c. not (is_client_on conn c)) (IsOwned cs) (IsOwned (others conn cs)) still clients
+    (recursion_from_All (IsOwned cs) clients all))
+  where
+    still : (x : Client) → IsOwned cs x → not (is_client_on conn x) ≡ true → IsOwned (others conn cs) x
+    still x owned other =
+        any-filter_same (is_connection x.conn.0) (λ c. not (is_connection conn c)) true
+        (λ k same. ap (λ n. not (n == conn)) (eqb-true k.conn.0 x.conn.0 same) ∙ other) cs
+        ∙ owned
+
 module _ {D E : Type 0} (state : E → EndState) (moves : E → List Step → E → Type 0) (b new : Board D E) (book : Book)
     (order : InOrder state b) (p : Client → Bool) (forgets : Forgets moves (without_clients b book) new)
     (left : book.clients.items ≡ filter (λ c. not (p c)) b.book.clients.items)
     (room : vec_capacity book.clients ≡ vec_capacity b.book.clients)
     (connection_room : vec_capacity book.connections ≡ vec_capacity b.book.connections)
     (apart : IsDistinct nat_eq (map (λ c. c.conn.0) book.connections.items))
-    (opens : All IsOpen book.connections.items) where
+    (opens : All IsOpen book.connections.items)
+    (owned : All (IsOwned book.connections.items) (filter (λ c. not (p c)) b.book.clients.items)) where
   -- the book after
   abbrev last_book : Book
   last_book = record (b.book) {
@@ -102,6 +123,7 @@ module _ {D E : Type 0} (state : E → EndState) (moves : E → List Step → E 
         levels =
             subst (All HasLevels) (sym left)
             (All-filter (λ c. not (p c)) HasLevels b.book.clients.items old.levels);
+        owned = subst (All (IsOwned book.connections.items)) (sym left) owned;
       }
 
   belongs_left : (e : StreamEntry E) → Belongs b.book b.seats.items e → is_of_live book.clients.items e ≡ true →

@@ -1,8 +1,8 @@
 -- What the look-ups find on a board, and which rows refuse where they find nothing.
 use Rattle.std.proofs.Common.{◌≡◌, ℕ, ◌==◌, List, ◌++◌, Option, Some, None, refl, sym, ap, ◌∙◌, eqb-true}
-use Rattle.std.proofs.Common.{if◌then◌else◌, is_none, get_or}
+use Rattle.std.proofs.Common.{if◌then◌else◌, is_none, get_or, subst, not, Bool, true, false}
 use Rattle.std.specs.Option.{option_map}
-use Rattle.std.specs.List.{find, position}
+use Rattle.std.specs.List.{All, find, list_any, position}
 use Rattle.std.proofs.lemmas.Bool.{and_parts}
 use Rattle.std.proofs.lemmas.Option.{get_or_from_slice_get}
 use Rattle.ca_base.specs.declared.codes.Hr.{Hr}
@@ -16,11 +16,12 @@ use Rattle.client_state.specs.Rows.{gate_rows}
 use Rattle.ca_stage.specs.Stage.{BufferData}
 use Rattle.ca_stage.specs.Moves.{stream_at}
 use Rattle.ca_stage.specs.Tally.{Tally}
-use Rattle.ca_machine.specs.State.{State, is_client_of}
+use Rattle.ca_machine.specs.State.{State, is_client_of, is_connection}
 use Rattle.ca_machine.specs.SharedRows.{client_rows, control_rows, stream_rows}
 use Rattle.period_engine.specs.declared.entry.StreamEntry.{StreamEntry}
 use Rattle.period_engine.specs.Entries.{stream_of}
 use Rattle.service_board.specs.Board.{state_of}
+use Rattle.service_board.specs.InOrder.{IsOwned}
 use Rattle.service_board.specs.Lookups.{
   FindsClient,
   FindsStream,
@@ -44,29 +45,42 @@ pub says_later : {D E : Type 0} (b : Board D E) (front rest : State → List (Ro
 says_later b front rest verdict passes says datas tally =
     first_later (front (state_of datas tally b)) (rest (state_of datas tally b)) (passes datas tally) ∙ says datas tally
 
--- a call's client, and that there is none
-module _ {D E : Type 0} (b : Board D E) (conn client : ℕ) (connected : Says b (control_rows conn) None) where
-  pub finds_client : (at : ℕ) → Some at ≡ position (is_client_of conn client) b.book.clients.items →
-      FindsClient conn client b at
-  finds_client at e =
+-- a call's client, whose connection is open, and that there is none
+module _ {D E : Type 0} (b : Board D E) (conn client : ℕ) where
+  pub finds_client : All (IsOwned b.book.connections.items) b.book.clients.items → (at : ℕ) →
+      Some at ≡ position (is_client_of conn client) b.book.clients.items → FindsClient conn client b at
+  finds_client owned at e =
       let f = found_at (is_client_of conn client) b.book.clients.items at e in
       let parts = and_parts (f.member.client.0 == client) (f.member.conn.0 == conn) f.passes in
+      let conn_is = eqb-true f.member.conn.0 conn parts.1 in
+      let own : IsOwned b.book.connections.items f.member =
+      subst (IsOwned b.book.connections.items)
+      (get_or_from_slice_get b.book.clients.items at f.member f.member f.here) (owned at f.member f.within) in
       record {
         within = f.within;
         named = f.member;
         here = f.here;
         found = f.found;
         client_is = eqb-true f.member.client.0 client parts.0;
-        conn_is = eqb-true f.member.conn.0 conn parts.1;
-        says = says_later b (control_rows conn) (client_rows conn client) None connected
+        conn_is = conn_is;
+        says = says_later b (control_rows conn) (client_rows conn client) None
+            (λ datas tally. ap (λ v. if not v then Some hr.E_HANDLE else None)
+            (sym (ap (λ n. list_any (is_connection n) b.book.connections.items) conn_is) ∙ own))
             (λ datas tally. ap (λ o. if is_none o then Some hr.E_HANDLE else None) f.found);
       }
 
+  -- whether the connection is open or not
   pub unknown_client : None ≡ position (is_client_of conn client) b.book.clients.items →
       Says b (client_call_rows conn client) (Some hr.E_HANDLE)
-  unknown_client e = says_later b (control_rows conn) (client_rows conn client) (Some hr.E_HANDLE) connected
-      (λ datas tally. ap (λ o. if is_none o then Some hr.E_HANDLE else None)
-      (none_at (is_client_of conn client) b.book.clients.items e))
+  unknown_client e datas tally =
+      let connected = list_any (is_connection conn) b.book.connections.items in
+      ap (λ o. if not connected then Some hr.E_HANDLE else if is_none o then Some hr.E_HANDLE else None)
+      (none_at (is_client_of conn client) b.book.clients.items e)
+      ∙ either connected
+    where
+      either : (v : Bool) → (if not v then Some hr.E_HANDLE else Some hr.E_HANDLE) ≡ Some hr.E_HANDLE
+      either true = refl
+      either false = refl
 
 -- the stream of an entry that was found, and that there is none
 pub stream_there : {D E : Type 0} (b : Board D E) (client : ℕ) (e : StreamEntry E) →

@@ -8,7 +8,7 @@ use Rattle.buffer_ring.specs.declared.step.EndState.{EndState}
 use Rattle.ca_stage.specs.Order.{RisesFrom}
 use Rattle.ca_machine.specs.State.{live_clients}
 use Rattle.period_engine.specs.Entries.{AreInOrder, IsRested}
-use Rattle.service_board.specs.InOrder.{Belongs, HasLevels, IsBook, IsOpen, Seats}
+use Rattle.service_board.specs.InOrder.{Belongs, HasLevels, IsBook, IsOpen, IsOwned, Seats}
 use Rattle.service_board.specs.New.{IsEmptyBook, IsNewBoard}
 use Rattle.service_board.specs.declared.board.Board.{Board}
 use Rattle.service_board.specs.declared.book.Book.{Book}
@@ -29,6 +29,7 @@ empty_book b empty = record {
   endpoints = subst (λ xs. RisesFrom 0 (map (λ e. e.endpoint.0) xs)) (sym empty.endpoints) tt;
   added = subst (All (λ e. e.endpoint.0 ≤ b.last_endpoint)) (sym empty.endpoints) (All-nil _);
   levels = subst (All HasLevels) (sym empty.clients) (All-nil _);
+  owned = subst (All (IsOwned b.connections.items)) (sym empty.clients) (All-nil _);
 }
 
 pub new_board : {D E : Type 0} (state : E → EndState) (b : Board D E) → IsEmptyBook b.book → b.seats.items ≡ [] →

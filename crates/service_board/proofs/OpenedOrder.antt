@@ -91,6 +91,7 @@ book_joined old sessions o = record {
   endpoints = o.endpoints;
   added = o.added;
   levels = o.levels;
+  owned = o.owned;
 }
 
 belongs_joined : {E : Type 0} (old : Book) (sessions : SessionList) (seats : List Seat) (e : StreamEntry E) →

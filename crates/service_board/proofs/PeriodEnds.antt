@@ -264,6 +264,7 @@ module _ {D E : Type 0} (faults : D → ℕ) (told : D → Option (List DeviceLo
                   (order.book.added at x (endpoint_within state b order number at due))))
                   order.book.added;
               levels = order.book.levels;
+              owned = order.book.owned;
             }
 
         pub failed_order : InOrder state failed_board

@@ -18,7 +18,7 @@ use Rattle.ca_machine.specs.declared.state.Client.{Client}
 use Rattle.ca_machine.specs.State.{is_client_of, live_clients}
 use Rattle.ca_machine.specs.Streams.{with_stream_level}
 use Rattle.period_engine.specs.declared.entry.StreamEntry.{StreamEntry}
-use Rattle.service_board.specs.InOrder.{Belongs, HasLevels, InOrder, IsBook}
+use Rattle.service_board.specs.InOrder.{Belongs, HasLevels, InOrder, IsBook, IsOwned}
 use Rattle.service_board.specs.Lookups.{FindsClient}
 use Rattle.service_board.specs.declared.board.Board.{Board}
 use Rattle.service_board.specs.declared.board.Seat.{Seat}
@@ -59,6 +59,7 @@ module _ (sessions : SessionList) where
     endpoints = h.endpoints;
     added = h.added;
     levels = h.levels;
+    owned = h.owned;
   }
 
   still_belongs : {E : Type 0} (book : Book) (seats : List Seat) (e : StreamEntry E) → Belongs book seats e →
@@ -195,6 +196,8 @@ module _ (conn client channel level : ℕ) where
           levels = All-set HasLevels xs at (leveled channel level c)
               (All-set (λ n. n ≤ MAX_LEVEL) c.levels channel level most (subst HasLevels reads (h.levels at c within)))
               h.levels;
+          owned = All-set (IsOwned book.connections.items) xs at (leveled channel level c)
+              (subst (IsOwned book.connections.items) reads (h.owned at c within)) h.owned;
         }
 
     leveled_belongs : {E : Type 0} (seats : List Seat) → RisesFrom 0 (live_clients book.clients.items) →

@@ -1,6 +1,7 @@
 -- What holds of a board between events (this project's own).
-use Rattle.std.specs.Prelude.{◌≡◌, ℕ, ◌*◌, ◌≤◌, ◌==◌, nat_eq, List, [], ◌∷◌, length, map, Bool, false, Option, Some}
-use Rattle.std.specs.List.{All, AllZip, IsDistinct, find}
+use Rattle.std.specs.Prelude.{◌≡◌, ℕ, ◌*◌, ◌≤◌, ◌==◌, nat_eq, List, [], ◌∷◌, length, map, Bool, false, true}
+use Rattle.std.specs.Prelude.{Option, Some}
+use Rattle.std.specs.List.{All, AllZip, IsDistinct, find, list_any}
 use Rattle.std.specs.Option.{option_map_or}
 use Rattle.std.specs.Vec.{vec_capacity}
 use Rattle.ca_base.specs.declared.ids.StreamKind.TheVariants.{Render}
@@ -21,7 +22,7 @@ use Rattle.session_manager.specs.Sessions.{session_at}
 use Rattle.ca_machine.specs.declared.state.Client.{Client}
 use Rattle.ca_machine.specs.declared.state.Connection.{Connection}
 use Rattle.ca_machine.specs.declared.state.Endpoint.{Endpoint}
-use Rattle.ca_machine.specs.State.{is_endpoint, live_clients}
+use Rattle.ca_machine.specs.State.{is_connection, is_endpoint, live_clients}
 use Rattle.ca_machine.specs.Periods.{gain_in, period_frames}
 use Rattle.period_engine.specs.declared.entry.StreamEntry.{StreamEntry}
 use Rattle.period_engine.specs.Entries.{AreInOrder, IsRested}
@@ -45,8 +46,12 @@ pub record IsOpen (c : Connection) : Type 0 where
 abbrev pub HasLevels : Client → Type 0
 HasLevels c = All (λ level. level ≤ MAX_LEVEL) c.levels
 
--- no two connections have one number; numbers of clients and endpoints rise, up to the last one given; and counts and
--- levels are in range
+-- the connection of a client is one of these
+abbrev pub IsOwned : List Connection → Client → Type 0
+IsOwned connections c = list_any (is_connection c.conn.0) connections ≡ true
+
+-- no two connections have one number, and those of clients are open; numbers of clients and endpoints rise, up to the
+-- last one given; and counts and levels are in range
 pub record IsBook (b : Book) : Type 0 where
   pub rooms : HasRooms b
   pub apart : IsDistinct nat_eq (map (λ c. c.conn.0) b.connections.items)
@@ -58,6 +63,7 @@ pub record IsBook (b : Book) : Type 0 where
   pub endpoints : RisesFrom 0 (map (λ e. e.endpoint.0) b.endpoints.items)
   pub added : All (λ e. e.endpoint.0 ≤ b.last_endpoint) b.endpoints.items
   pub levels : All HasLevels b.clients.items
+  pub owned : All (IsOwned b.connections.items) b.clients.items
 
 -- a seat is that of an endpoint: its next place is in range, and a period fits in its scratch
 pub record Seats (seat : Seat) (e : Endpoint) : Type 0 where

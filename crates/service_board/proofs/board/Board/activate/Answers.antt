@@ -6,7 +6,13 @@ use Rattle.ca_machine.specs.Clients.{activate_plan, new_client}
 use Rattle.service_board.specs.Does.{AnyData}
 use Rattle.service_board.proofs.Doing.{refused_does}
 use Rattle.service_board.proofs.Granting.{book_does}
-use Rattle.service_board.proofs.Activating.{activate_grants, activated_order, clients_free, full_levels}
+use Rattle.service_board.proofs.Activating.{
+  activate_grants,
+  activated_order,
+  client_owned,
+  clients_free,
+  full_levels,
+}
 use Rattle.service_board.proofs.board.Board.activate.Goals as goal
 
 pub returns-in_err-check_activate-clause-does : goal.returns-in_err-check_activate-clause-does
@@ -38,4 +44,5 @@ returns-clause-order g c =
     activated_order g.E.EngineSide.state c.args.self.now c.requires.order (record old { clients = c.push.new.self })
     (new_client (old.clients_made + 1) c.args.conn.0 c.args.endpoint.0 c.args.role) c.in-Ok.ensures.items refl
     c.push.ensures.capacity (full_levels (old.clients_made + 1) c.args.conn.0 c.args.endpoint.0 c.args.role)
+    (client_owned c.args.self.now c.args.conn.0 c.args.endpoint.0 c.args.role c.in_ok-check_activate.ensures)
     (clients_free c.args.self.now c.args.conn.0 c.args.endpoint.0 c.args.role c.in_ok-check_activate.ensures)

@@ -8,11 +8,11 @@ use Rattle.ca_machine.specs.declared.state.Connection.{Connection}
 use Rattle.ca_machine.specs.State.{is_connection}
 use Rattle.ca_machine.specs.Clients.{closes, hangup_plan, is_client_on}
 use Rattle.service_board.specs.Does.{AnyData}
-use Rattle.service_board.specs.InOrder.{IsOpen}
+use Rattle.service_board.specs.InOrder.{IsOpen, IsOwned}
 use Rattle.service_board.proofs.Doing.{refused_does}
 use Rattle.service_board.proofs.Granting.{granted_does}
 use Rattle.service_board.proofs.LeavingState.{are_closed, leaving_made, leaving_steps, none_closed, state_left}
-use Rattle.service_board.proofs.LeavingOrder.{apart_left, order_left}
+use Rattle.service_board.proofs.LeavingOrder.{apart_left, order_left, owned_left}
 use Rattle.service_board.proofs.board.Board.hangup.Goals as goal
 
 pub returns-in_err-connected-clause-does : goal.returns-in_err-connected-clause-does
@@ -70,6 +70,8 @@ returns-clause-order g c =
     (apart_left others old.book.connections.items c.requires.order.book.apart))
     (subst (All IsOpen) (sym left)
     (All-filter others IsOpen old.book.connections.items c.requires.order.book.opens))
+    (subst (λ cs. All (IsOwned cs) (filter (λ x. not (is_client_on c.args.conn.0 x)) old.book.clients.items)) (sym left)
+    (owned_left c.args.conn.0 old.book.connections.items old.book.clients.items c.requires.order.book.owned))
 
 pub returns-clause-closed : goal.returns-clause-closed
 returns-clause-closed g c =

@@ -1,10 +1,12 @@
-use Rattle.std.proofs.Common.{[], None, filter, refl, ap}
+use Rattle.std.proofs.Common.{[], None, filter, not, refl, ap}
+use Rattle.std.proofs.lemmas.List.Elements.{All-filter}
 use Rattle.std.proofs.lemmas.Result.{err_from_is_err_and}
 use Rattle.ca_base.specs.declared.codes.TheConstants.Hr as hr
 use Rattle.ca_stage.specs.Tally.{tally_after}
 use Rattle.ca_machine.specs.State.{is_client_of}
 use Rattle.ca_machine.specs.Clients.{closes, release_plan}
 use Rattle.service_board.specs.Does.{AnyData}
+use Rattle.service_board.specs.InOrder.{IsOwned}
 use Rattle.service_board.proofs.Doing.{refused_does}
 use Rattle.service_board.proofs.Granting.{granted_does}
 use Rattle.service_board.proofs.LeavingState.{are_closed, leaving_made, leaving_steps, none_closed, state_left}
@@ -53,6 +55,8 @@ returns-clause-order g c =
     (record (old.book) { clients = c.drop_client.new.clients }) c.requires.order
     (is_client_of c.args.conn.0 c.args.client.0) c.forget_gone.ensures c.drop_client.ensures.left
     c.drop_client.ensures.room refl c.requires.order.book.apart c.requires.order.book.opens
+    (All-filter (λ x. not (is_client_of c.args.conn.0 c.args.client.0 x)) (IsOwned old.book.connections.items)
+    old.book.clients.items c.requires.order.book.owned)
 
 pub returns-clause-closed : goal.returns-clause-closed
 returns-clause-closed g c =
