@@ -191,5 +191,8 @@ nothing_began faults told law left written devices = record {
     };
     written = appends_none written;
   };
-  here = inl (record { incomplete = no_length (omega arith); size = omega arith });
+  here = inl (record {
+    more = record { incomplete = no_length (omega arith); size = omega arith };
+    behind = λ some. some;
+  });
 }

@@ -44,7 +44,7 @@ use Rattle.event_loop.specs.Ends.{
   IsDone,
   EndsInside,
   ReadAll,
-  WantsMemory,
+  WantsMore,
   HadOnly,
   moment,
   end_of,
@@ -53,7 +53,7 @@ use Rattle.event_loop.specs.Parts.{Answer, IsUntouched, ReadsPiece, StopsFront, 
 use Rattle.event_loop.specs.declared.ends.LoopEnd.TheVariants as ends
 use Rattle.event_loop.specs.declared.ends.Stop.{Stop}
 use Rattle.event_loop.specs.declared.ends.Stop.TheVariants as stop
-use Rattle.event_loop.proofs.Turns.{SoFar, answered-piece, answers-more, at_start, count-more, still}
+use Rattle.event_loop.proofs.Turns.{SoFar, HasReadRoom, answered-piece, answers-more, at_start, count-more, still}
 
 -- a source that was read to its end had the bytes that were read
 had-only : (before after : Option (List ℕ)) (bytes : List ℕ) → Consumes before after bytes → IsAtEnd after
@@ -82,7 +82,10 @@ ends-at_once answers left written desk =
       replies = now.replies;
       rest = [];
       answered = now.answered;
-      here = inl (record { incomplete = no_length (omega arith); size = omega (arith, now.count) });
+      here = inl (record {
+        more = record { incomplete = no_length (omega arith); size = omega (arith, now.count) };
+        behind = λ some. absurd (omega (arith, now.count, some, length-append (frames now.events) []));
+      });
     }
 
 module _ {M : Type 0} (answers : Answer M) (old : Moment M) (left written : Option (List ℕ)) (desk : M)
@@ -118,28 +121,37 @@ module _ {M : Type 0} (answers : Answer M) (old : Moment M) (left written : Opti
   }
 
   -- no piece was read
-  pub ends-unread : (s : Stop) (left' : Option (List ℕ)) → StopsRead s → left' ≡ left → IsIncomplete pending
-      → taken < 2 ^ 40
+  pub ends-unread : (s : Stop) (size : ℕ) (left' : Option (List ℕ)) → StopsRead size pending s → left' ≡ left
+      → IsIncomplete pending → taken < 2 ^ 40 → HasReadRoom taken size
       → Ends (Runs answers) old (moment left' written desk) (end_of s)
-  ends-unread s left' why same part below =
+  ends-unread s size left' why same part below room =
       subst (λ (l : Option (List ℕ)). Ends (Runs answers) old (moment l written desk) (end_of s)) (sym same)
       (here s why)
     where
-      here : (s : Stop) → StopsRead s → Ends (Runs answers) old (moment left written desk) (end_of s)
+      more : WantsMore (frames h.events) pending
+      more = record { incomplete = part; size = omega (arith, h.count, below) }
+
+      here : (s : Stop) → StopsRead size pending s → Ends (Runs answers) old (moment left written desk) (end_of s)
       here stop.WriteFault why = absurd why
       here stop.ReadFault why = record {
         events = h.events;
         replies = h.replies;
         rest = pending;
         answered = h.answered;
-        here = record { incomplete = part; size = omega (arith, h.count, below) };
+        here = more;
       }
       here stop.NoMemory why = record {
         events = h.events;
         replies = h.replies;
         rest = pending;
         answered = h.answered;
-        here = inl (record { incomplete = part; size = omega (arith, h.count, below) });
+        here = inl (record {
+          more = more;
+          behind = λ some.
+              let sum = length-append (frames h.events) pending in
+              let there = room (omega (arith, some, sum, h.count)) in
+              omega (arith, why, there);
+        });
       }
 
   -- the event at the front of the pending bytes wasn't answered whole

@@ -4,6 +4,7 @@ use Rattle.std.proofs.Common.{
   ℕ,
   ◌+◌,
   ◌<◌,
+  ◌≤◌,
   List,
   [],
   ◌∷◌,
@@ -26,6 +27,7 @@ use Rattle.std.proofs.lemmas.List.{length-append, length-drop, length-take, take
 use Rattle.std.proofs.lemmas.List.Concat.{flat_map-append}
 use Rattle.std.specs.List.{AllByRecursion}
 use Rattle.std.specs.Io.KnownBytes.{Appends, Consumes}
+use Rattle.ca_base.specs.declared.limits.TheConstants.{READ_SIZE}
 use Rattle.ca_model.specs.declared.event.Event.{Event}
 use Rattle.ca_model.specs.declared.reply.Reply.{Reply}
 use Rattle.ca_model.specs.Spelling.{IsEvent, frame, frames}
@@ -42,6 +44,10 @@ pub record SoFar {M : Type 0} (answers : Answer M) (old new : Moment M) (pending
   pub replies : List Reply
   pub answered : Answered (Runs answers) WroteEach old new events replies pending
   pub count : length (frames events ++ pending) ≡ taken
+
+-- once something was read, the buffer has a size for a piece
+abbrev pub HasReadRoom : ℕ → ℕ → Type 0
+HasReadRoom taken size = 0 < taken → READ_SIZE ≤ size
 
 -- one more event is answered
 Runs-more : {M : Type 0} (answers : Answer M) (a b c : M) (es : List Event) (rs : List Reply) (e : Event) (r : Reply)

@@ -116,9 +116,14 @@ pub record ReadAll (front rest : List ℕ) : Type 0 where
 abbrev pub WithinLimit : List ℕ → List ℕ → Type 0
 WithinLimit front rest = length (front ++ rest) ≤ LONGEST_INPUT
 
+-- memory was wanted to read more: before anything was read, or behind the beginning of an event. Else there is room
+pub record WantsRoom (front rest : List ℕ) : Type 0 where
+  pub more : WantsMore front rest
+  pub behind : 0 < length front → 0 < length rest
+
 -- memory was wanted for more bytes, or for the event at the front of the rest
 abbrev pub WantsMemory : List ℕ → List ℕ → Type 0
-WantsMemory front rest = WantsMore front rest ⊎ (IsOutOfMemory rest × WithinLimit front rest)
+WantsMemory front rest = WantsRoom front rest ⊎ (IsOutOfMemory rest × WithinLimit front rest)
 
 -- what each end says
 abbrev pub Ends : {M : Type 0} → Course M → Moment M → Moment M → LoopEnd → Type 0

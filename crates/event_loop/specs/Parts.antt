@@ -1,7 +1,8 @@
 -- What the parts of the loop promise to one another (the whole file is this project's own): only the proofs need it. What
 -- `answer_events` promises is in Ends.antt.
-use Rattle.std.specs.Prelude.{◌≡◌, ℕ, ◌<◌, ◌≤◌, List, ◌++◌, length, Option}
+use Rattle.std.specs.Prelude.{◌≡◌, ℕ, ◌+◌, ◌<◌, ◌≤◌, List, ◌++◌, length, Option}
 use Rattle.std.specs.Io.KnownBytes.{Appends, Consumes, IsAtEnd}
+use Rattle.ca_base.specs.declared.limits.TheConstants.{READ_SIZE}
 use Rattle.ca_model.specs.declared.event.Event.{Event}
 use Rattle.ca_model.specs.declared.reply.Reply.{Reply}
 use Rattle.ca_model.specs.Spelling.{IsIncomplete, IsMalformed}
@@ -67,7 +68,12 @@ pub record ReadsPiece (old new : List ℕ) (left left' : Option (List ℕ)) (lim
   pub read : Consumes left left' piece
   pub ends : count ≡ 0 → IsAtEnd left
 
--- a read stops by the source or by memory
-abbrev pub StopsRead : Stop → Type 0
-StopsRead stop.WriteFault = ⊥
-StopsRead _ = Unit {0}
+-- behind the pending bytes a buffer of this size has no room for a piece, even if they move to its front
+abbrev pub LacksRoom : ℕ → List ℕ → Type 0
+LacksRoom size list = size < length list + READ_SIZE
+
+-- a read stops by the source, or, if the buffer lacks room, by memory
+abbrev pub StopsRead : ℕ → List ℕ → Stop → Type 0
+StopsRead size list stop.WriteFault = ⊥
+StopsRead size list stop.ReadFault = Unit {0}
+StopsRead size list stop.NoMemory = LacksRoom size list

@@ -2,7 +2,7 @@
 
 ghost use Rattle.std.specs.Prelude.{◌≡◌, ◌+◌, ◌-◌, ◌<◌, ◌≤◌, [], length, take, drop, vec_len, IfOk, IfErr, OnOk, OnErr, MatchResult};
 ghost use Rattle.event_loop.specs.Ends.{RoseIf, end_of, is_read_fault};
-ghost use Rattle.event_loop.specs.Parts.{ReadsPiece, StopsRead};
+ghost use Rattle.event_loop.specs.Parts.{LacksRoom, ReadsPiece, StopsRead};
 
 use crate::ends::Stop;
 use ca_base::limits::{LENGTH_SIZE, LONGEST_BODY, READ_SIZE};
@@ -21,14 +21,14 @@ pub struct Pending {
 
 impl Model for Pending {
     ghost use Rattle.std.specs.Prelude.{◌-◌, length, take, drop};
-    ghost use Rattle.ca_base.specs.Buffer.{Buffer};
-    ghost use Rattle.event_loop.specs.Window.{IsWindow};
+    ghost use Rattle.event_loop.specs.Window.{IsWindow, PendingBytes};
 
-    ghost Value = { Buffer };
+    ghost Value = { PendingBytes };
 
     ghost view = { λ p. record {
       list = take (p.end - p.start) (drop p.start p.bytes.items);
       capacity = length p.bytes.items - p.start;
+      size = length p.bytes.items;
     } };
 
     ghost invariant = { λ p. IsWindow p.start p.end (length p.bytes.items) };
@@ -73,17 +73,20 @@ impl Pending {
     /// Drops the first `used` bytes.
     pub fn drop_front(&mut self, used: usize)
         requires { used ≤ length self.old.list }
-        ensures { self.new.list ≡ drop used self.old.list }
+        ensures list { self.new.list ≡ drop used self.old.list }
+        ensures size { self.new.size ≡ self.old.size }
     {
         self.start += used;
     }
 
     /// Makes room for a piece behind the bytes: they move to the front of the buffer if the room behind them is too small,
-    /// and then the buffer grows if it must.
+    /// and then the buffer grows if it must. Only that takes memory.
     fn make_room(&mut self) -> Result<(), NoMemory>
         requires { length self.old.list ≤ LENGTH_SIZE + LONGEST_BODY }
         ensures list { self.new.list ≡ self.old.list }
         ensures ok { OnOk result (length self.old.list + READ_SIZE ≤ self.new.capacity) }
+        ensures size { OnOk result (READ_SIZE ≤ self.new.size) }
+        ensures err { OnErr result (LacksRoom self.old.size self.old.list) }
     {
         if self.bytes.len() - self.end >= READ_SIZE {
             return Ok(());
@@ -99,14 +102,15 @@ impl Pending {
     }
 
     /// Reads at most `limit` bytes behind the pending ones, and answers how many came. 0 is the end of the source. After
-    /// `NoMemory` the source wasn't asked.
+    /// `NoMemory` the source wasn't asked. That comes only if the whole buffer is too small for a piece behind them.
     pub fn read<S: Source>(&mut self, input: &mut S, limit: u64) -> Result<usize, Stop>
         requires more { 0 < limit }
         requires incomplete { length self.old.list ≤ LENGTH_SIZE + LONGEST_BODY }
         ensures ok { IfOk result (λ count. ReadsPiece self.old.list self.new.list (S.left input.old) (S.left input.new) limit count) }
         ensures list { OnErr result (self.new.list ≡ self.old.list) }
         ensures left { OnErr result (S.left input.new ≡ S.left input.old) }
-        ensures err { IfErr result StopsRead }
+        ensures err { IfErr result (StopsRead self.old.size self.old.list) }
+        ensures size { OnOk result (READ_SIZE ≤ self.new.size) }
         ensures faults { MatchResult result (λ _. S.faults input.new ≡ S.faults input.old)
             (λ stop. RoseIf (is_read_fault (end_of stop)) (S.faults input.old) (S.faults input.new)) }
     {

@@ -14,24 +14,26 @@ events-init g c = record {
   sink = refl;
   within = omega arith;
   room = c.in-Ok.ensures;
+  size = λ some. absurd (omega (arith, some));
 }
 
 pub events-preserved-in-Ok-Answered : goal.events-preserved-in-Ok-Answered
 events-preserved-in-Ok-Answered g c =
     let front = rw (c.in-Ok-Answered.field-0-is, c.as_slice.ensures) at c.in-Ok-Answered.ensures.ok in
     record {
-      so_far = rw c.drop_front.ensures (after-event g.M.Desk.answers _ _ _ _ _ _ c.events.invariant.so_far c.in-Ok-Answered.used _ _ front);
+      so_far = rw c.drop_front.ensures.list (after-event g.M.Desk.answers _ _ _ _ _ _ c.events.invariant.so_far c.in-Ok-Answered.used _ _ front);
       source = c.events.invariant.source;
       sink = c.in-Ok-Answered.ensures.faults ∙ c.events.invariant.sink;
       within = c.events.invariant.within;
       room = c.in-Ok-Answered.ensures.room ∙ c.events.invariant.room;
+      size = rw c.drop_front.ensures.size c.events.invariant.size;
     }
 
 pub events-smaller-in-Ok-Answered : goal.events-smaller-in-Ok-Answered
 events-smaller-in-Ok-Answered g c =
     let front = rw (c.in-Ok-Answered.field-0-is, c.as_slice.ensures) at c.in-Ok-Answered.ensures.ok in
     let less = drop-shorter front.event c.events.pending.list c.in-Ok-Answered.used front.next in
-    rw c.drop_front.ensures (omega (arith, less))
+    rw c.drop_front.ensures.list (omega (arith, less))
 
 pub returns-in-Ok-eq0-2-clause-ends : goal.returns-in-Ok-eq0-2-clause-ends
 returns-in-Ok-eq0-2-clause-ends g c =
@@ -50,6 +52,7 @@ events-preserved g c =
       sink = c.in-Ok-NeedMore.ensures.faults ∙ c.events.invariant.sink;
       within = omega (arith, c.in-Ok-read.ensures.ok.within, c.events.invariant.within);
       room = c.in-Ok-NeedMore.ensures.room ∙ c.events.invariant.room;
+      size = λ some. c.in-Ok-read.ensures.size;
     }
 
 pub returns-in-Err-clause-ends : goal.returns-in-Err-clause-ends

@@ -1,6 +1,6 @@
 use Rattle.std.proofs.Common.{◌≡◌, ◌+◌, ◌-◌, ◌*◌, ◌^◌, ◌≤◌, length}
 use Rattle.event_loop.specs.Ends.{moment}
-use Rattle.event_loop.proofs.Turns.{SoFar}
+use Rattle.event_loop.proofs.Turns.{SoFar, HasReadRoom}
 use Rattle.event_loop.proofs.events.answer_events.Given as goal
 
 -- each event before the pending bytes was answered, and no call failed
@@ -13,6 +13,7 @@ invariant-events g l = record {
   sink : g.K.Sink.faults l.output ≡ g.K.Sink.faults l.fn.output;
   within : l.taken ≤ 2 ^ 40;
   room : l.buffers ≡ l.fn.room;
+  size : HasReadRoom l.taken l.pending.size;
 }
 
 -- a read takes more than it adds to the pending bytes, and an event takes some of these
