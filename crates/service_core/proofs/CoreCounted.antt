@@ -14,7 +14,7 @@ use Rattle.ca_stage.specs.Present.{AreGone, IsGone}
 use Rattle.ca_stage.specs.Tally.{Tally}
 use Rattle.ca_stage.proofs.Lists.{all-map, found_passes, map_map}
 use Rattle.ca_machine.specs.State.{State, live_clients}
-use Rattle.ca_machine.specs.Plan.{Answer, Plan, outcome_of}
+use Rattle.ca_machine.specs.Plan.{Answer, Outcome, Plan, outcome_of}
 use Rattle.ca_machine.proofs.LiveClients.{found_is_live}
 use Rattle.period_engine.specs.declared.entry.StreamEntry.{StreamEntry}
 use Rattle.period_engine.specs.Entries.{stream_of}
@@ -23,10 +23,11 @@ use Rattle.service_board.specs.InOrder.{Belongs, InOrder}
 use Rattle.reply_payload.specs.declared.payload.Payload.TheVariants as payload_is
 use Rattle.service_board.specs.declared.board.Board.{Board}
 use Rattle.service_core.specs.BothEnds.{MovesStore}
-use Rattle.service_core.specs.Core.{Goes, GoesTo, LooksAround, core_datas, core_state, open_words}
+use Rattle.service_core.specs.Core.{Goes, GoesTo, LooksAround, core_datas, core_state, words_in}
 use Rattle.service_core.specs.Counting.{after_taking, more_dropped, more_reset}
 use Rattle.service_core.specs.Service.{IsCore}
 use Rattle.service_core.specs.declared.both_ends.BothEnds.{BothEnds}
+use Rattle.service_core.specs.declared.pending.Streams.TheVariants as streams
 use Rattle.service_core.proofs.CoreSteps.{each_of}
 use Rattle.service_core.proofs.CoreAnswers.{board_core, board_goes}
 use Rattle.service_core.proofs.CoreCounts.{
@@ -39,23 +40,21 @@ use Rattle.service_core.proofs.CoreCounts.{
   taken,
 }
 use Rattle.service_core.proofs.EventsFall.{Keeps}
-use Rattle.service_core.proofs.PendingWords.{around_order, around_sides, around_state}
+use Rattle.service_core.proofs.PendingWords.{around_state}
 use Rattle.service_core.proofs.TallyFalls.{open_padding}
 use Rattle.service_core.proofs.TallyOutcomes.{WereDropped, WereReset, WereTaken}
+use Rattle.service_core.proofs.Waiting.{still_core}
 
-module _ {D F : Type 0} (faults : D → ℕ) (told : D → Option (List DeviceLog)) (kept : F → Kept) (state : F → EndState)
-    (whole : (x : F) → state_of (kept x) ≡ state x) (moves : F → List Step → F → Type 0)
-    (exact : (a b : F) (ss : List Step) → moves a ss b → RunsSteps (kept a) ss (kept b)) where
-  -- the clients of the streams are those of the entries, and are live
-  pub rises : (b : Board D (BothEnds F)) (tally : Tally) → InOrder (λ ends. state ends.store) b →
-      RisesFrom 0 (clients (core_state kept tally b).stage)
-  rises b tally order =
+-- the clients of the streams are those of the entries, and are live
+module _ {D F : Type 0} (kept : F → Kept) (state : F → EndState) (b : Board D (BothEnds F)) (tally : Tally)
+    (order : InOrder (λ ends. state ends.store) b) where
+  rises : RisesFrom 0 (clients (core_state kept tally b).stage)
+  rises =
       subst (RisesFrom 0)
       (sym (map_map (λ s. s.client) (stream_of (core_datas kept b.entries.items)) b.entries.items)) order.order
 
-  pub gone : (b : Board D (BothEnds F)) (tally : Tally) → InOrder (λ ends. state ends.store) b →
-      AreGone (live_clients b.book.clients.items) (core_state kept tally b).stage
-  gone b tally order =
+  gone : AreGone (live_clients b.book.clients.items) (core_state kept tally b).stage
+  gone =
       all-map (Belongs b.book b.seats.items) (IsGone (live_clients b.book.clients.items))
       (stream_of (core_datas kept b.entries.items)) (λ e here out. absurd (true≢false (sym (lives e here) ∙ out)))
       b.entries.items (each_of (Belongs b.book b.seats.items) b.entries.items order.belong)
@@ -68,92 +67,93 @@ module _ {D F : Type 0} (faults : D → ℕ) (told : D → Option (List DeviceLo
           (found_passes (λ c. c.client.0 == e.client.0) b.book.clients.items here.client here.live)))
           ∙ found_is_live (λ c. c.client.0 == e.client.0) b.book.clients.items here.client here.live
 
-  -- the board as it was, when the event came, after it, and after the second look
-  module _ (first old new last : Board D (BothEnds F)) (enters : LooksAround kept first old)
-      (leaves : LooksAround kept new last) (core : IsCore state kept first)
-      (new_order : InOrder (λ ends. state ends.store) new) (before after more : ℕ)
-      (counts_before : before ≡ sum_by (open_words kept) first.entries.items)
-      (counts_after : after ≡ sum_by (open_words kept) new.entries.items) (is_more : more ≡ before - after) where
-    old_core : IsCore state kept old
-    old_core = record {
-      order = around_order kept state whole first old enters core.order;
-      sides = around_sides kept state whole first old enters core.sides;
-    }
+-- the board as it was, when the event came, after it, and after the second look
+module _ {D F : Type 0} (faults : D → ℕ) (told : D → Option (List DeviceLog)) (kept : F → Kept) (state : F → EndState)
+    (whole : (x : F) → state_of (kept x) ≡ state x) (moves : F → List Step → F → Type 0)
+    (exact : (a b : F) (ss : List Step) → moves a ss b → RunsSteps (kept a) ss (kept b))
+    (first old new last : Board D (BothEnds F)) (enters : LooksAround kept first old)
+    (leaves : LooksAround kept new last) (core : IsCore state kept first)
+    (new_order : InOrder (λ ends. state ends.store) new) (before more : ℕ)
+    (counts : before ≡ sum_by (words_in kept streams.Open) first.entries.items)
+    (is_more : more ≡ before - sum_by (words_in kept streams.Open) new.entries.items)
+    (known : (ℕ → BufferData) → Type 0) (plan : State → Plan) (answer : Hr) (payload : List ℕ)
+    (does : Does faults told (MovesStore moves) None known old new plan answer payload)
+    (knows : known (core_datas kept old.entries.items)) (keeps : (st : State) → Keeps st (plan st)) where
+  old_core : IsCore state kept old
+  old_core = still_core kept state whole first old enters core
 
-    module _ (known : (ℕ → BufferData) → Type 0) (plan : State → Plan) (answer : Hr) (payload : List ℕ)
-        (does : Does faults told (MovesStore moves) None known old new plan answer payload)
-        (knows : known (core_datas kept old.entries.items)) (keeps : (st : State) → Keeps st (plan st)) where
-      pub counted_core : IsCore state kept last
-      counted_core =
-          let now = board_core faults told kept state moves exact old new old_core new_order plan answer payload keeps
-          known
-          does knows in
-          record {
-            order = around_order kept state whole new last leaves now.order;
-            sides = around_sides kept state whole new last leaves now.sides;
-          }
+  pub counted_core : IsCore state kept last
+  counted_core =
+      still_core kept state whole new last leaves
+      (board_core faults told kept state moves exact old new old_core new_order plan answer payload keeps known does
+      knows)
 
-      goes : (tally : Tally) → Goes faults told kept plan answer payload tally old new
-      goes tally =
-          board_goes faults told kept state moves exact old new old_core new_order plan answer payload keeps known
-          does knows
-          tally
+  goes : (tally : Tally) → Goes faults told kept plan answer payload tally old new
+  goes tally =
+      board_goes faults told kept state moves exact old new old_core new_order plan answer payload keeps known does
+      knows tally
 
-      -- what was counted is what the event took
-      taken_is : (tally : Tally) → taken faults told kept plan answer payload tally old new (goes tally) ≡ more
-      taken_is tally =
-          ap₂ (λ a b. a - b)
-          (sym (ap (λ s. open_padding s.stage) (sym (around_state kept state whole first old enters tally)))
-          ∙ sym (pending_is kept first tally core.order.order) ∙ sym counts_before)
-          (sym (pending_is kept new tally new_order.order) ∙ sym counts_after)
-          ∙ sym is_more
+  -- what was counted is what the event took
+  taken_is : (tally : Tally) → taken faults told kept plan answer payload tally old new (goes tally) ≡ more
+  taken_is tally =
+      ap₂ (λ a b. a - b)
+      (sym (ap (λ s. open_padding s.stage) (sym (around_state kept state whole first old enters tally)))
+      ∙ sym (pending_is kept first tally core.order.order) ∙ sym counts)
+      (sym (pending_is kept new tally new_order.order))
+      ∙ sym is_more
 
-      around : (tally tally' : Tally) → GoesTo faults told kept plan answer payload tally tally' old new →
-          GoesTo faults told kept plan answer payload tally tally' first last
-      around tally tally' to =
-          goes_around faults told kept state whole plan answer payload tally tally' first old new last enters leaves to
+  around : (tally tally' : Tally) → GoesTo faults told kept plan answer payload tally tally' old new →
+      GoesTo faults told kept plan answer payload tally tally' first last
+  around tally tally' to =
+      goes_around faults told kept state whole plan answer payload tally tally' first old new last enters leaves to
 
-      pub counted_reset : (tally : Tally) →
-          ((given : List Answer) → WereReset (core_state kept tally old)
-          (outcome_of (core_state kept tally old) (plan (core_state kept tally old)) given).after) →
-          GoesTo faults told kept plan answer payload tally (more_reset more tally) first last
-      counted_reset tally were =
-          around tally (more_reset more tally)
-          (subst (λ n. GoesTo faults told kept plan answer payload tally (more_reset n tally) old new) (taken_is tally)
-          (goes_reset faults told kept plan answer payload tally old new (goes tally) were))
+  -- the state that the event comes to, and the one after it for these answers
+  abbrev comes : Tally → State
+  comes tally = core_state kept tally old
 
-      pub counted_dropped : (tally : Tally) →
-          ((given : List Answer) → WereDropped (core_state kept tally old)
-          (outcome_of (core_state kept tally old) (plan (core_state kept tally old)) given).after) →
-          GoesTo faults told kept plan answer payload tally (more_dropped more tally) first last
-      counted_dropped tally were =
-          around tally (more_dropped more tally)
-          (subst (λ n. GoesTo faults told kept plan answer payload tally (more_dropped n tally) old new)
-          (taken_is tally)
-          (goes_dropped faults told kept plan answer payload tally old new (goes tally) were))
+  abbrev ends : Tally → List Answer → Outcome
+  ends tally given = outcome_of (comes tally) (plan (comes tally)) given
 
-      -- an event that took nothing from the tally
-      pub counted_still : (tally : Tally) →
-          ((given : List Answer) →
-          [] ≡ (outcome_of (core_state kept tally old) (plan (core_state kept tally old)) given).payload →
-          (outcome_of (core_state kept tally old) (plan (core_state kept tally old)) given).after.tally ≡ tally) →
-          [] ≡ payload → GoesTo faults told kept plan answer payload tally tally first last
-      counted_still tally stays none =
-          around tally tally
-          (goes_nothing faults told kept plan answer payload tally old new (goes tally) stays none)
+  pub counted_reset : (tally : Tally) →
+      (RisesFrom 0 (clients (comes tally).stage) → (given : List Answer) →
+      WereReset (comes tally) (ends tally given).after) →
+      GoesTo faults told kept plan answer payload tally (more_reset more tally) first last
+  counted_reset tally were =
+      around tally (more_reset more tally)
+      (subst (λ n. GoesTo faults told kept plan answer payload tally (more_reset n tally) old new) (taken_is tally)
+      (goes_reset faults told kept plan answer payload tally old new (goes tally)
+      (were (rises kept state old tally old_core.order))))
 
-      pub counted_taking : (tally : Tally) (frames : ℕ) (failed : Bool) →
-          ((given : List Answer) →
-          to_le_bytes w32 frames ++ (if failed then 1 else 0) ∷ []
-          ≡ (outcome_of (core_state kept tally old) (plan (core_state kept tally old)) given).payload →
-          WereTaken failed (core_state kept tally old)
-          (outcome_of (core_state kept tally old) (plan (core_state kept tally old)) given).after) →
-          to_le_bytes w32 frames ++ (if failed then 1 else 0) ∷ [] ≡ payload →
-          GoesTo faults told kept plan answer payload tally
-          (after_taking (Ok (payload_is.Period frames failed)) more tally)
-          first last
-      counted_taking tally frames failed were is =
-          around tally (after_taking (Ok (payload_is.Period frames failed)) more tally)
-          (subst (λ n. GoesTo faults told kept plan answer payload tally
-          (after_taking (Ok (payload_is.Period frames failed)) n tally) old new) (taken_is tally)
-          (goes_taking faults told kept plan answer payload tally old new (goes tally) frames failed were is))
+  pub counted_dropped : (tally : Tally) →
+      (RisesFrom 0 (clients (comes tally).stage) → AreGone (live_clients old.book.clients.items) (comes tally).stage →
+      (given : List Answer) → WereDropped (comes tally) (ends tally given).after) →
+      GoesTo faults told kept plan answer payload tally (more_dropped more tally) first last
+  counted_dropped tally were =
+      around tally (more_dropped more tally)
+      (subst (λ n. GoesTo faults told kept plan answer payload tally (more_dropped n tally) old new) (taken_is tally)
+      (goes_dropped faults told kept plan answer payload tally old new (goes tally)
+      (were (rises kept state old tally old_core.order) (gone kept state old tally old_core.order))))
+
+  -- an event that took nothing from the tally
+  pub counted_still : (tally : Tally) →
+      (RisesFrom 0 (clients (comes tally).stage) → (given : List Answer) → [] ≡ (ends tally given).payload →
+      (ends tally given).after.tally ≡ tally) →
+      [] ≡ payload → GoesTo faults told kept plan answer payload tally tally first last
+  counted_still tally stays none =
+      around tally tally
+      (goes_nothing faults told kept plan answer payload tally old new (goes tally)
+      (stays (rises kept state old tally old_core.order)) none)
+
+  pub counted_taking : (tally : Tally) (frames : ℕ) (failed : Bool) →
+      (RisesFrom 0 (clients (comes tally).stage) → (given : List Answer) →
+      to_le_bytes w32 frames ++ (if failed then 1 else 0) ∷ [] ≡ (ends tally given).payload →
+      WereTaken failed (comes tally) (ends tally given).after) →
+      to_le_bytes w32 frames ++ (if failed then 1 else 0) ∷ [] ≡ payload →
+      GoesTo faults told kept plan answer payload tally (after_taking (Ok (payload_is.Period frames failed)) more tally)
+      first last
+  counted_taking tally frames failed were is =
+      around tally (after_taking (Ok (payload_is.Period frames failed)) more tally)
+      (subst (λ n. GoesTo faults told kept plan answer payload tally
+      (after_taking (Ok (payload_is.Period frames failed)) n tally) old new) (taken_is tally)
+      (goes_taking faults told kept plan answer payload tally old new (goes tally) frames failed
+      (were (rises kept state old tally old_core.order)) is))

@@ -1,47 +1,38 @@
 -- From the step of the machine on the state of both ends to the tally that goes with it.
-use Rattle.std.proofs.Common.{◌≡◌, ℕ, ◌-◌, ◌++◌, List, [], ◌∷◌, length, Bool, true, false, Option, Some, Ok, sym, ap}
+use Rattle.std.proofs.Common.{◌≡◌, ℕ, ◌-◌, ◌++◌, List, [], ◌∷◌, Bool, true, false, Option, Ok, sym, ap}
 use Rattle.std.proofs.Common.{subst, ◌∙◌, sum_by, if◌then◌else◌}
 use Rattle.std.specs.Int.{w32, to_le_bytes}
-use Rattle.std.specs.Option.{option_map_or}
 use Rattle.std.proofs.lemmas.List.{length-map}
 use Rattle.device_io.specs.DeviceLog.{DeviceLog}
 use Rattle.wave_format.specs.Frame.{frame_of}
 use Rattle.ca_base.specs.declared.codes.Hr.{Hr}
 use Rattle.buffer_ring.specs.declared.step.EndState.{EndState}
 use Rattle.buffer_ring.specs.Kept.{Kept, state_of}
-use Rattle.ca_stage.specs.Stage.{is_open_gate, no_data}
+use Rattle.ca_stage.specs.Stage.{is_open_gate}
 use Rattle.ca_stage.specs.Tally.{Tally}
-use Rattle.ca_stage.proofs.Lists.{all_weaker}
-use Rattle.ca_stage.proofs.MapTallies.{sum_alike, sum_map}
 use Rattle.ca_machine.specs.State.{State}
 use Rattle.ca_machine.specs.Plan.{Answer, Plan, outcome_of}
 use Rattle.ca_machine.specs.View.{AnswersBy, outside}
-use Rattle.period_engine.specs.Entries.{AreInOrder, stream_of}
+use Rattle.period_engine.specs.Entries.{AreInOrder}
 use Rattle.reply_payload.specs.declared.payload.Payload.TheVariants as payload_is
 use Rattle.service_board.specs.declared.board.Board.{Board}
-use Rattle.service_core.specs.Core.{Goes, GoesTo, LooksAround, core_data, core_datas, core_state, open_words}
+use Rattle.service_core.specs.Core.{Goes, GoesTo, LooksAround, core_state, words_in}
 use Rattle.service_core.specs.Counting.{after_taking, more_dropped, more_reset}
 use Rattle.service_core.specs.declared.both_ends.BothEnds.{BothEnds}
-use Rattle.service_core.proofs.EntryData.{data_found, each_entry, entry_at}
+use Rattle.service_core.specs.declared.pending.Streams.TheVariants as streams
 use Rattle.service_core.proofs.TallyFalls.{open_padding, open_pads}
 use Rattle.service_core.proofs.TallyOutcomes.{WereDropped, WereReset, WereTaken}
 use Rattle.service_core.proofs.TallyStays.{LeavesTally}
-use Rattle.service_core.proofs.PendingWords.{around_state}
+use Rattle.service_core.proofs.PendingWords.{around_state, sums}
 
 -- the words of open streams are the frames that are pending in them
 pub pending_is : {D F : Type 0} (kept : F → Kept) (b : Board D (BothEnds F)) (tally : Tally) →
     AreInOrder b.entries.items →
-    sum_by (open_words kept) b.entries.items ≡ open_padding (core_state kept tally b).stage
+    sum_by (words_in kept streams.Open) b.entries.items ≡ open_padding (core_state kept tally b).stage
 pending_is kept b tally order =
-    sum_alike (open_words kept) (λ e. open_pads (stream_of (core_datas kept b.entries.items) e)) b.entries.items
-    (all_weaker (λ e. entry_at e.client.0 b.entries.items ≡ Some e)
-    (λ e. open_words kept e ≡ open_pads (stream_of (core_datas kept b.entries.items) e))
-    (λ e found. ap (λ n. if is_open_gate e.gate then n else 0)
-    (sym (length-map (kept e.store.store).words (frame_of e.channels))
-    ∙ sym (ap (λ d. length d.pending)
-    (data_found kept e.client.0 b.entries.items ∙ ap (λ o. option_map_or (core_data kept) o no_data) found))))
-    b.entries.items (each_entry b.entries.items order))
-    ∙ sym (sum_map open_pads (stream_of (core_datas kept b.entries.items)) b.entries.items)
+    sums kept (words_in kept streams.Open) open_pads
+    (λ e. ap (λ n. if is_open_gate e.gate then n else 0)
+    (sym (length-map (kept e.store.store).words (frame_of e.channels)))) b.entries.items order
 
 module _ {D F : Type 0} (faults : D → ℕ) (told : D → Option (List DeviceLog)) (kept : F → Kept) (plan : State → Plan)
     (result : Hr) (payload : List ℕ) (before : Tally) (old new : Board D (BothEnds F))

@@ -1,24 +1,28 @@
 -- Looks at all stores: what they add up to, and that they change nothing.
 use Rattle.std.proofs.Common.{◌≡◌, ℕ, ◌+◌, ◌≤◌, List, [], ◌∷◌, map, refl, sym, ap, ap₂, subst, ◌∙◌, arith, sum_by}
-use Rattle.std.proofs.Common.{if◌then◌else◌, ◌==◌}
+use Rattle.std.proofs.Common.{if◌then◌else◌, ◌==◌, Some}
 use Rattle.std.specs.List.{All, AllZip}
+use Rattle.std.specs.Option.{option_map_or}
 use Rattle.std.proofs.lemmas.List.Sums.{sum_by-cons}
 use Rattle.std.proofs.lemmas.List.Elements.{All-nil, All-cons, All-head, All-tail}
 use Rattle.buffer_ring.specs.declared.step.EndState.{EndState}
 use Rattle.buffer_ring.specs.Kept.{Kept, state_of}
 use Rattle.ca_base.specs.declared.limits.TheConstants.{CLIENTS}
-use Rattle.ca_stage.specs.Stage.{BufferData}
+use Rattle.ca_stage.specs.Stage.{BufferData, Stream, no_data}
 use Rattle.ca_stage.specs.Order.{RisesFrom}
 use Rattle.ca_stage.specs.Tally.{Tally}
+use Rattle.ca_stage.proofs.Lists.{all_weaker}
+use Rattle.ca_stage.proofs.MapTallies.{sum_alike, sum_map}
 use Rattle.period_engine.specs.declared.entry.StreamEntry.{StreamEntry}
 use Rattle.period_engine.specs.Added.{Threads}
-use Rattle.period_engine.specs.Entries.{IsRested, stream_with, streams_of}
+use Rattle.period_engine.specs.Entries.{AreInOrder, IsRested, stream_of, stream_with, streams_of}
 use Rattle.service_board.specs.Board.{book_state, playhead_of}
 use Rattle.service_board.specs.InOrder.{Belongs, InOrder}
 use Rattle.service_board.specs.declared.board.Board.{Board}
 use Rattle.service_core.specs.Core.{HasSide, HaveSides, IsLooked, LooksAround, core_data, core_datas, core_state}
 use Rattle.service_core.specs.declared.both_ends.BothEnds.{BothEnds}
 use Rattle.service_board.proofs.StreamMoves.{belongs_kept}
+use Rattle.service_core.proofs.EntryData.{data_found, each_entry, entry_at}
 use Rattle.service_core.proofs.DataEntries.{looked_rested, looked_side, looked_stream, same_but_store}
 
 -- an entry was looked at, and what it has was added
@@ -44,6 +48,20 @@ module _ {F : Type 0} (kept : F → Kept) (has : StreamEntry (BothEnds F) → �
   all_looked (x ∷ xs) (y ∷ ys) old new h = (h.1.0, all_looked xs ys h.0 new h.2)
   all_looked [] (y ∷ ys) old new h = absurd h
   all_looked (x ∷ xs) [] old new h = absurd h
+
+-- in order, what an entry counts of its own store adds up to what the streams count
+pub sums : {F : Type 0} (kept : F → Kept) (has : StreamEntry (BothEnds F) → ℕ) (counts : Stream → ℕ) →
+    ((e : StreamEntry (BothEnds F)) → has e ≡ counts (stream_with (core_data kept e) e)) →
+    (xs : List (StreamEntry (BothEnds F))) → AreInOrder xs →
+    sum_by has xs ≡ sum_by counts (streams_of (core_datas kept xs) xs)
+sums kept has counts each xs order =
+    sum_alike has (λ e. counts (stream_of (core_datas kept xs) e)) xs
+    (all_weaker (λ e. entry_at e.client.0 xs ≡ Some e) (λ e. has e ≡ counts (stream_of (core_datas kept xs) e))
+    (λ e found. each e
+    ∙ sym (ap (λ d. counts (stream_with d e))
+    (data_found kept e.client.0 xs ∙ ap (λ o. option_map_or (core_data kept) o no_data) found)))
+    xs (each_entry xs order))
+    ∙ sym (sum_map counts (stream_of (core_datas kept xs)) xs)
 
 module _ {F : Type 0} (kept : F → Kept) where
   -- the data of each client are as before

@@ -16,13 +16,13 @@ use Rattle.reply_payload.specs.declared.payload.Payload.{Payload}
 use Rattle.reply_payload.specs.declared.payload.Payload.TheVariants as payload
 use Rattle.service_board.specs.declared.board.Board.{Board}
 use Rattle.service_core.specs.BothEnds.{MovesStore}
-use Rattle.service_core.specs.Core.{GoesTo, LooksAround, core_state, open_words}
+use Rattle.service_core.specs.Core.{GoesTo, LooksAround, core_state, words_in}
 use Rattle.service_core.specs.Counting.{HasCounts, after_taking}
 use Rattle.service_core.specs.Service.{IsCore}
 use Rattle.service_core.specs.declared.both_ends.BothEnds.{BothEnds}
-use Rattle.service_core.proofs.CoreCounted.{counted_still, counted_taking, rises}
+use Rattle.service_core.specs.declared.pending.Streams.TheVariants as streams
+use Rattle.service_core.proofs.CoreCounted.{counted_still, counted_taking}
 use Rattle.service_core.proofs.EventsFall.{keeps_event}
-use Rattle.service_core.proofs.PendingWords.{around_order}
 use Rattle.service_core.proofs.TallyOutcomes.{period_nothing, period_outcome}
 
 module _ {D F : Type 0} (faults : D → ℕ) (told : D → Option (List DeviceLog)) (kept : F → Kept) (state : F → EndState)
@@ -30,10 +30,9 @@ module _ {D F : Type 0} (faults : D → ℕ) (told : D → Option (List DeviceLo
     (exact : (a b : F) (ss : List Step) → moves a ss b → RunsSteps (kept a) ss (kept b))
     (first old new last : Board D (BothEnds F)) (enters : LooksAround kept first old)
     (leaves : LooksAround kept new last) (core : IsCore state kept first)
-    (new_order : InOrder (λ ends. state ends.store) new) (before after more : ℕ)
-    (counts_before : before ≡ sum_by (open_words kept) first.entries.items)
-    (counts_after : after ≡ sum_by (open_words kept) new.entries.items) (is_more : more ≡ before - after)
-    (e : EndpointNo) where
+    (new_order : InOrder (λ ends. state ends.store) new) (before more : ℕ)
+    (counts : before ≡ sum_by (words_in kept streams.Open) first.entries.items)
+    (is_more : more ≡ before - sum_by (words_in kept streams.Open) new.entries.items) (e : EndpointNo) where
   pub period_counts : (answer : Result Payload Hr) →
       Does faults told (MovesStore moves) None AnyData old new (λ st. period_plan st e.0) (code_of answer)
       (payload_of answer) →
@@ -42,24 +41,16 @@ module _ {D F : Type 0} (faults : D → ℕ) (told : D → Option (List DeviceLo
       (after_taking answer more tally) first last
   period_counts (Err code) does plays tally fits =
       counted_still faults told kept state whole moves exact first old new last enters leaves core new_order before
-      after
-      more counts_before counts_after is_more AnyData (λ st. period_plan st e.0) code (payload_of (Err code)) does tt
+      more counts is_more AnyData (λ st. period_plan st e.0) code (payload_of (Err code)) does tt
       (λ st. keeps_event st (event.Period e) tt) tally
-      (λ given none. period_nothing (core_state kept tally old)
-      (rises faults told kept state whole moves exact old tally
-      (around_order kept state whole first old enters core.order))
-      fits e.0 given none)
+      (λ rise. period_nothing (core_state kept tally old) rise fits e.0)
       refl
   period_counts (Ok (payload.Period frames failed)) does plays tally fits =
       counted_taking faults told kept state whole moves exact first old new last enters leaves core new_order before
-      after
-      more counts_before counts_after is_more AnyData (λ st. period_plan st e.0)
+      more counts is_more AnyData (λ st. period_plan st e.0)
       (code_of (Ok (payload.Period frames failed))) (payload_of (Ok (payload.Period frames failed))) does tt
       (λ st. keeps_event st (event.Period e) tt) tally frames failed
-      (λ given is. period_outcome (core_state kept tally old)
-      (rises faults told kept state whole moves exact old tally
-      (around_order kept state whole first old enters core.order))
-      fits e.0 given frames failed is)
+      (λ rise given. period_outcome (core_state kept tally old) rise fits e.0 given frames failed)
       refl
   period_counts (Ok payload.Nothing) does plays tally fits = absurd plays
   period_counts (Ok (payload.Number n)) does plays tally fits = absurd plays

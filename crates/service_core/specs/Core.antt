@@ -43,6 +43,8 @@ use Rattle.service_board.specs.declared.board.Board.{Board}
 use Rattle.service_board.specs.declared.opening.OpeningPlan.{OpeningPlan}
 use Rattle.service_core.specs.Putting.{TookMore}
 use Rattle.service_core.specs.declared.both_ends.BothEnds.{BothEnds}
+use Rattle.service_core.specs.declared.pending.Streams.{Streams}
+use Rattle.service_core.specs.declared.pending.Streams.TheVariants as streams
 
 -- the data of an entry's client: the frames of its store, and what its side counts and leases
 abbrev pub core_data : {F : Type 0} → (F → Kept) → StreamEntry (BothEnds F) → BufferData
@@ -110,9 +112,10 @@ pub record Releases {F : Type 0} (kept : F → Kept) (frames : List Frame) (coun
       ≡ frames_in a.channels (kept a.store.store).words ++ frames
   pub took : TookMore count (kept a.store.store) (kept b.store.store)
 
--- how many words the store of an open stream has
-abbrev pub open_words : {F : Type 0} → (F → Kept) → StreamEntry (BothEnds F) → ℕ
-open_words kept e = if is_open_gate e.gate then length (kept e.store.store).words else 0
+-- how many words an entry's store has; none if its stream is none of these
+abbrev pub words_in : {F : Type 0} → (F → Kept) → Streams → StreamEntry (BothEnds F) → ℕ
+words_in kept streams.All e = length (kept e.store.store).words
+words_in kept streams.Open e = if is_open_gate e.gate then length (kept e.store.store).words else 0
 
 -- looks were taken at the stores, and nothing was changed
 pub record LooksAround {D F : Type 0} (kept : F → Kept) (old new : Board D (BothEnds F)) : Type 0 where

@@ -1,17 +1,10 @@
 -- What became of all frames, as a machine's state says it (this project's own).
-use Rattle.std.specs.Prelude.{◌≡◌, ℕ, ◌+◌, min, length}
+use Rattle.std.specs.Prelude.{◌≡◌, ◌+◌, min}
 use Rattle.std.specs.List.{sum_by}
 use Rattle.ca_base.specs.declared.limits.TheConstants.{MAX_TALLY}
-use Rattle.buffer_ring.specs.Kept.{Kept}
 use Rattle.ca_stage.specs.Stage.{padding}
 use Rattle.ca_machine.specs.State.{State}
-use Rattle.period_engine.specs.declared.entry.StreamEntry.{StreamEntry}
-use Rattle.service_core.specs.declared.both_ends.BothEnds.{BothEnds}
 use Rattle.service_core.specs.declared.totals.Totals.{Totals}
-
--- how many words an entry's store has
-abbrev pub words_in : {F : Type 0} → (F → Kept) → StreamEntry (BothEnds F) → ℕ
-words_in kept e = length (kept e.store.store).words
 
 -- totals are those of a state: its tally, the frames that wait in its streams, and all of them together, up to the
 -- greatest count

@@ -1,6 +1,7 @@
 //! Events that give frames a fate, on a board with both ends: how many frames they took from open streams.
 
-ghost use Rattle.std.specs.Prelude.{◌≡◌, is_some};
+ghost use Rattle.std.specs.Prelude.{◌≡◌, ◌-◌, is_some};
+ghost use Rattle.std.specs.List.{sum_by};
 ghost use Rattle.ca_machine.specs.Clients.{hangup_plan, release_plan};
 ghost use Rattle.ca_machine.specs.Periods.{period_plan};
 ghost use Rattle.ca_machine.specs.Streams.{reset_plan};
@@ -8,11 +9,12 @@ ghost use Rattle.ca_stage.specs.Tally.{Tally};
 ghost use Rattle.reply_payload.specs.Answers.{code_of, payload_of};
 ghost use Rattle.service_board.specs.InOrder.{InOrder};
 ghost use Rattle.service_core.specs.Counting.{HasCounts, after_taking, more_dropped, more_reset};
-ghost use Rattle.service_core.specs.Core.{GoesTo, core_datas};
+ghost use Rattle.service_core.specs.Core.{GoesTo, LooksAround, core_datas, words_in};
 ghost use Rattle.service_core.specs.Service.{IsCore};
+ghost use Rattle.service_core.specs.declared.pending.Streams.TheVariants as streams;
 
 use crate::BothEnds;
-use crate::pending::pending;
+use crate::pending::{Streams, pending};
 use buffer_ring::FrameStore;
 use ca_base::{ClientNo, ConnNo, EndpointNo, Hr};
 use device_io::Devices;
@@ -30,6 +32,15 @@ fn has_lease<D, F: FrameStore>(board: &Board<D, BothEnds<F>>, client: ClientNo) 
     }
 }
 
+/// By how much fewer frames than `before` are pending in open streams.
+fn fewer_than<D, F: FrameStore>(before: u64, board: &mut Board<D, BothEnds<F>>) -> u64
+    requires { InOrder (λ ends. F.state ends.store) board.old }
+    ensures fewer { result ≡ before - sum_by (words_in F.kept streams.Open) board.old.entries.items }
+    ensures looked { LooksAround F.kept board.old board.new }
+{
+    before.saturating_sub(pending(board, Streams::Open))
+}
+
 /// IAudioClient::Reset, and how many frames were reset.
 pub fn counted_reset<D: Devices, F: FrameStore>(
     board: &mut Board<D, BothEnds<F>>,
@@ -42,11 +53,10 @@ pub fn counted_reset<D: Devices, F: FrameStore>(
         (more_reset result.1 tally) board.old board.new }
     ensures core { IsCore F.state F.kept board.new }
 {
-    let before = pending(board);
+    let before = pending(board, Streams::Open);
     let leased = has_lease(board, client);
     let answer = board.reset(conn, client, leased);
-    let after = pending(board);
-    (answer, before.saturating_sub(after))
+    (answer, fewer_than(before, board))
 }
 
 /// A client is released; and how many frames were dropped.
@@ -61,10 +71,9 @@ pub fn counted_release<D: Devices, F: FrameStore>(
         (more_dropped result.1 tally) board.old board.new }
     ensures core { IsCore F.state F.kept board.new }
 {
-    let before = pending(board);
+    let before = pending(board, Streams::Open);
     let answer = board.release(conn, client);
-    let after = pending(board);
-    (answer, before.saturating_sub(after))
+    (answer, fewer_than(before, board))
 }
 
 /// A connection hangs up; and how many frames were dropped.
@@ -78,10 +87,9 @@ pub fn counted_hangup<D: Devices, F: FrameStore>(
         (more_dropped result.1 tally) board.old board.new }
     ensures core { IsCore F.state F.kept board.new }
 {
-    let before = pending(board);
+    let before = pending(board, Streams::Open);
     let answer = board.hangup(conn);
-    let after = pending(board);
-    (answer, before.saturating_sub(after))
+    (answer, fewer_than(before, board))
 }
 
 /// A period of an endpoint; and how many frames it took: they were rendered, or dropped if the device failed.
@@ -95,8 +103,7 @@ pub fn counted_period<D: Devices, F: FrameStore>(
         (after_taking result.0 result.1 tally) board.old board.new }
     ensures core { IsCore F.state F.kept board.new }
 {
-    let before = pending(board);
+    let before = pending(board, Streams::Open);
     let answer = board.period(e);
-    let after = pending(board);
-    (answer, before.saturating_sub(after))
+    (answer, fewer_than(before, board))
 }

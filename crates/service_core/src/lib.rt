@@ -11,6 +11,8 @@ mod pending;
 mod putting;
 mod service;
 mod tally;
+#[cfg(test)]
+mod tests;
 mod totals;
 
 pub use both_ends::BothEnds;

@@ -18,9 +18,9 @@ pub returns-clause-core : goal.returns-clause-core
 returns-clause-core g c =
     counted_core g.D.Devices.faults g.D.Devices.told g.F.FrameStore.kept g.F.EngineSide.state
     g.met.F.FrameStore.whole g.F.EngineSide.moves g.met.F.FrameStore.exact c.args.board.now c.pending-before.new.board
-    c.period-answer.new.self c.pending-after.new.board c.pending-before.ensures.looked c.pending-after.ensures.looked
-    c.requires c.period-answer.ensures.order c.pending-before.result c.pending-after.result c.saturating_sub.result
-    c.pending-before.ensures.count c.pending-after.ensures.count c.saturating_sub.ensures (AnyData)
+    c.period-answer.new.self c.fewer_than.new.board c.pending-before.ensures.looked c.fewer_than.ensures.looked
+    c.requires c.period-answer.ensures.order c.pending-before.result c.fewer_than.result
+    c.pending-before.ensures.count c.fewer_than.ensures.fewer (AnyData)
     (λ st. period_plan st c.args.e.0) (code_of c.period-answer.result) (payload_of c.period-answer.result)
     c.period-answer.ensures.does
     (tt) (λ st. keeps_event st (event.Period c.args.e) tt)
@@ -29,7 +29,7 @@ pub returns-clause-goes : goal.returns-clause-goes
 returns-clause-goes g c tally fits =
     period_counts g.D.Devices.faults g.D.Devices.told g.F.FrameStore.kept g.F.EngineSide.state
     g.met.F.FrameStore.whole g.F.EngineSide.moves g.met.F.FrameStore.exact c.args.board.now c.pending-before.new.board
-    c.period-answer.new.self c.pending-after.new.board c.pending-before.ensures.looked c.pending-after.ensures.looked
-    c.requires c.period-answer.ensures.order c.pending-before.result c.pending-after.result c.saturating_sub.result
-    c.pending-before.ensures.count c.pending-after.ensures.count c.saturating_sub.ensures c.args.e
+    c.period-answer.new.self c.fewer_than.new.board c.pending-before.ensures.looked c.fewer_than.ensures.looked
+    c.requires c.period-answer.ensures.order c.pending-before.result c.fewer_than.result
+    c.pending-before.ensures.count c.fewer_than.ensures.fewer c.args.e
     c.period-answer.result c.period-answer.ensures.does c.period-answer.ensures.plays tally fits

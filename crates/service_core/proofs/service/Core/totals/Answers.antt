@@ -8,12 +8,12 @@ use Rattle.service_core.proofs.service.Core.totals.Goals as goal
 pub invariant_of-self : goal.invariant_of-self
 invariant_of-self g c =
     still_core g.F.FrameStore.kept g.F.EngineSide.state g.met.F.FrameStore.whole c.self.inside.board
-    c.waiting-padding.new.board c.waiting-padding.ensures.looked c.self.invariant
+    c.pending-padding.new.board c.pending-padding.ensures.looked c.self.invariant
 
 pub returns-clause-totals : goal.returns-clause-totals
 returns-clause-totals g c =
     let counts = c.self.inside.tally in
-    let waits = c.waiting-padding.result in
+    let waits = c.pending-padding.result in
     let all = saturated MAX_TALLY counts.rendered counts.reset counts.dropped waits c.saturating_add.result
     c.saturating_add-2.result c.saturating_add-3.result c.saturating_add.ensures c.saturating_add-2.ensures
     c.saturating_add-3.ensures in
@@ -25,10 +25,10 @@ returns-clause-totals g c =
       dropped = counts.dropped;
     })) c.self.view_is
     (reports g.F.FrameStore.kept c.self.inside.board counts waits c.saturating_add-3.result
-    c.self.invariant.order.order c.waiting-padding.ensures.count all)
+    c.self.invariant.order.order c.pending-padding.ensures.count all)
 
 pub returns-clause-same : goal.returns-clause-same
 returns-clause-same g c =
     still_view g.F.FrameStore.kept g.F.EngineSide.state g.met.F.FrameStore.whole c.self.inside.board
-    c.waiting-padding.new.board c.waiting-padding.ensures.looked c.self.inside.tally
+    c.pending-padding.new.board c.pending-padding.ensures.looked c.self.inside.tally
     ∙ c.self.view_is
