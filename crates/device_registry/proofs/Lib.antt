@@ -1,0 +1,4 @@
+pub mod Bits
+pub mod Calls
+pub mod Finding
+pub mod Lists

@@ -1,0 +1,4 @@
+pub mod Endpoints
+pub mod Rows
+pub mod Changes
+pub mod Registry

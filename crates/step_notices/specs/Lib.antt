@@ -1,0 +1,4 @@
+pub mod Notes
+pub mod Limits
+pub mod Changes
+pub mod Laws
