@@ -64,6 +64,20 @@ class Bench(unittest.TestCase):
         self.assertEqual(names[5:], (["SetMaster"] * 5 + ["Period"]) * 2)
         self.assertEqual(source.played, 2 * 1920)
 
+    def test_disconnects(self):
+        for unplugged in (False, True):
+            source = bench.disconnects(self.folder / "events", 2, unplugged)
+            states = [["SetState"] * unplugged] * 2
+            names = [event.name for event in self.events(source)]
+            one = ["Activate", "Initialize", "Start"] * 64 + states[0] + ["Release"] * 64 + states[1]
+            self.assertEqual(names, ["Add", "Open"] + one * 2 + ["Period"])
+
+    def test_notices(self):
+        for taken in (False, True):
+            source = bench.notices(self.folder / "events", 2, taken)
+            names = [event.name for event in self.events(source)]
+            self.assertEqual(names[5:], ["Register"] + (["SetChannel"] * 256 + ["TakeNotices"] * taken) * 2 + ["Period"])
+
     def test_the_floors_copy_the_input(self):
         source = bench.small_events(self.folder / "events", 100)
         for name, run in bench.runners_of("none", source).items():

@@ -273,8 +273,8 @@ class Tables(unittest.TestCase):
                     self.has_fields(listed, [field.type for field in fields_of(shape)])
 
     def test_kinds_of_events(self):
-        heads = re.findall(r"(?m)^kinds \(event\.(\w+)[^)]*\) = ([\w ∷]+?)∷ (?:\[\]|or_rest .*)$", self.SPELLING)
-        numbers = re.findall(r"(?m)^fields \(event\.(\w+)[^)]*\) = number (\w+) ", self.SPELLING)
+        heads = re.findall(r"(?m)^kinds \(?event\.(\w+)[^)=]*\)? = ([\w ∷]+?)∷ (?:\[\]|or_rest .*)$", self.SPELLING)
+        numbers = re.findall(r"(?m)^fields \(?event\.(\w+)[^)=]*\)? = number (\w+) ", self.SPELLING)
         self.assertEqual([name for name, _ in heads], self.variants("Event"))
         self.assertEqual([name for name, _ in numbers], self.variants("Event"))
         for (name, listed), (_, kind) in zip(heads, numbers):
@@ -300,6 +300,13 @@ class Tables(unittest.TestCase):
                 of_type = names[types[prefix]]
                 known = max((known for known in of_type if name.lower().endswith(known)), key=len, default=None)
                 self.assertEqual(of_type.get(known), int(value, 0))
+
+    def test_notices_with_names(self):
+        found = {"notice": {}, "class": {}}
+        for constant, value in re.findall(r"const (\w+): u8 = (\d+);", text_of("crates/event_notices/src/kinds.rt")):
+            name = constant.removeprefix("CLASS_")
+            found["notice" if name == constant else "class"][name.lower()] = int(value)
+        self.assertEqual(found, {name: wire.NAMES[name] for name in found})
 
     def test_the_length_of_a_frame(self):
         self.assertEqual(wire.LIMITS["length"], (1, constants()["LONGEST_BODY"]))
@@ -337,7 +344,7 @@ class Tables(unittest.TestCase):
     def forms(self, listed):
         """The sizes or forms of the fields that a row lists, such as `client (8), format, data (rest)`."""
         words = {"text": "counted", "format": "counted", "GUID": "guid", "rest": "rest", "connection": 1}
-        fields = [re.sub(r".*\(([\w ]+)\)$", r"\1", field) for field in listed.split(", ")]
+        fields = [re.sub(r".*\(([\w ]+)\)$", r"\1", field) for field in listed.split(", ") if listed != "none"]
         return [int(field) if field.isdigit() else words.get(field, field) for field in fields]
 
 

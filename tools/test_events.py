@@ -128,6 +128,8 @@ class TheBytes(unittest.TestCase):
         ("setdefault render console 1", "08000000" "05" "05" "00" "00" "01000000"),
         ("setstate endpoint=1 state=active+unplugged", "0a000000" "05" "02" "01000000" "09000000"),
         ("activate conn=2 tag=7 endpoint=1 role=none", "0c000000" "03" "02" "07000000" "05" "01000000" "ff"),
+        ("register devices 0", "10000000" "03" "01" "01000000" "07" "01" "0000000000000000"),
+        ("register class=7 subject=1", "10000000" "03" "01" "01000000" "07" "07" "0100000000000000"),
         ("release client=1", "0f000000" "03" "01" "01000000" "06" "0100000000000000"),
         ("release client=1 frames=2 ramp",
          "1f000000" "03" "01" "01000000" "21" "0100000000000000" "02000000" "00000000"
@@ -280,7 +282,7 @@ class Payloads(unittest.TestCase):
         ("TakeNotices", "01000000" "0200000000000000" "4d00000000000000" "0100000000000000" "01000000"
          "07" "0100000000000000" + GUID + "0500000000000000" "0000",
          {"events": [{"client": 2, "handle": 77}], "lost": 1,
-          "notices": [{"kind": 7, "subject": 1, "context": bytes.fromhex(GUID), "value": 5, "text": b""}]}),
+          "notices": [{"notice": 7, "subject": 1, "context": bytes.fromhex(GUID), "value": 5, "text": b""}]}),
     ]
 
     def test_payloads(self):
@@ -393,6 +395,15 @@ period endpoint=1
         frames = "0a000000" "03" "01" "01000000" "01008988" "0a000000" "01" "02" "00000000" "efbeadde"
         shown = "call conn=1 tag=1: NOT_INITIALIZED\nopen conn=2 tag=0: 0xDEADBEEF\n"
         self.assertEqual(self.ends(tool("show", stdin=bytes.fromhex(frames)), 0, ""), shown)
+
+    def test_notices_have_names(self):
+        payload = ("00000000" "0100000000000000" "02000000"
+                   "03" "0100000000000000" + "00" * 16 + "0800000000000000" "0000"
+                   "0b" "0200000000000000" + GUID + "0000000000000000" "0200" "4869")
+        line = events.reply_line(bytes.fromhex("03" "01" "01000000" "00000000" + payload), "TakeNotices")
+        self.assertEqual(line, 'S_OK events=[] lost=1 notices=['
+                         'notice=device_state subject=1 context=null value=8 text="", '
+                         'notice=display_name subject=2 context=00112233-4455-6677-8899-aabbccddeeff value=0 text="Hi"]')
 
     def test_show_of_a_cut_or_malformed_input(self):
         wrong = [("05000000" "04", "5 bytes are wanted and 1 are left"),

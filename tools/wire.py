@@ -28,7 +28,8 @@ RESULTS = {
 
 SIZES = {  # the bytes of each type of numbers; a time is in units of 100 ns, a level is from 0 to FULL_LEVEL
     "u8": 1, "u16": 2, "u32": 4, "u64": 8, "length": 4, "kind": 1, "conn": 1, "time": 8, "flow": 1,
-    "role": 1, "state": 4, "share": 4, "stream_flags": 4, "buffer_flags": 4, "level": 4, "session_state": 1}
+    "role": 1, "state": 4, "share": 4, "stream_flags": 4, "buffer_flags": 4, "level": 4, "session_state": 1,
+    "class": 1, "notice": 1}
 LIMITS = {  # of numbers, if they are narrower than their bytes, and of the lengths of the other types
     "length": (1, 4_194_304), "kind": (1, 7), "conn": (1, 32), "text": (0, 256), "format": (0, 0xFFFF),
     "guid": (16, 16)}
@@ -37,6 +38,11 @@ NAMES = {  # of values; of the types in JOINED a value may be several of these, 
     "role": {"console": 0, "multimedia": 1, "communications": 2, "none": 255},
     "state": {"active": 1, "disabled": 2, "notpresent": 4, "unplugged": 8},
     "session_state": {"inactive": 0, "active": 1, "expired": 2},
+    "class": {"devices": 1, "sessions": 2, "session": 3, "ducking": 4, "endpoint_volume": 5, "parts": 6},
+    "notice": {"device_added": 1, "device_removed": 2, "device_state": 3, "default_changed": 4, "device_property": 5,
+               "session_created": 6, "disconnected": 7, "session_state": 8, "simple_volume": 9, "channel_volume": 10,
+               "display_name": 11, "icon_path": 12, "grouping": 13, "duck": 14, "unduck": 15, "endpoint_volume": 16,
+               "part_changed": 17},
     "share": {"shared": 0, "exclusive": 1},
     "stream_flags": {"crossprocess": 1 << 16, "loopback": 1 << 17, "eventcallback": 1 << 18,
                      "nopersist": 1 << 19},
@@ -46,7 +52,7 @@ JOINED = {"state", "stream_flags", "buffer_flags"}
 # A field is name:type. With `?` it may be left out, and is then 0 or the null GUID. Types besides are guid,
 # rest and message (the rest of the body), TYPE[] (a list with its count in front), and the records.
 RECORDS = {"handle": "client:u64 handle:u64",
-           "notice": "kind:u8 subject:u64 context:guid value:u64 text:text"}
+           "told": "notice:notice subject:u64 context:guid value:u64 text:text"}
 HEADS = {3: "conn:conn tag:u32 "}  # fields of a kind that come before the code
 
 EVENTS = [  # kind, code, event, fields, payload of S_OK
@@ -60,10 +66,10 @@ EVENTS = [  # kind, code, event, fields, payload of S_OK
      "flow:flow state:state allow:u8 priority:u8 format:format id:text name:text"),
     (3, 5, "Activate", "endpoint:u32 role:role", "client:u64"),
     (3, 6, "Release", "client:u64", ""),
-    (3, 7, "Register", "class:u8 subject:u64", "registration:u64"),
+    (3, 7, "Register", "class:class subject:u64", "registration:u64"),
     (3, 8, "Unregister", "registration:u64", ""),
-    (3, 9, "TakeNotices", "max:u32", "events:handle[] lost:u64 notices:notice[]"),
-    (3, 10, "AwaitNotices", "max:u32", "events:handle[] lost:u64 notices:notice[]"),
+    (3, 9, "TakeNotices", "max:u32", "events:handle[] lost:u64 notices:told[]"),
+    (3, 10, "AwaitNotices", "max:u32", "events:handle[] lost:u64 notices:told[]"),
     (3, 16, "Initialize", "client:u64 share:share flags:stream_flags? duration:time period:time? "
      "format:format session:guid?", "session:u64"),
     (3, 17, "GetBufferSize", "client:u64", "frames:u32"),

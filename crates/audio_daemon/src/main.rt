@@ -8,6 +8,10 @@ ghost use Rattle.audio_daemon.specs.Run.{exit_status, is_replay};
 ghost use Rattle.audio_daemon.specs.StatusLine.{Finishes};
 
 #[cfg(test)]
+mod endpoint_rows;
+#[cfg(test)]
+mod notice_rows;
+#[cfg(test)]
 mod rows;
 mod run;
 #[cfg(test)]

@@ -14,8 +14,11 @@ pub enum Ask {
     Call(u8, &'static [u8]),
     /// The same on another connection.
     On(u8, u8, &'static [u8]),
+    /// A device event's code, and the bytes of its fields.
+    Device(u8, &'static [u8]),
     Period,
     Hangup,
+    Shutdown,
     /// The connection opens, as in `OPEN`.
     Open,
 }
@@ -57,9 +60,9 @@ const BUFFER_OPERATION_PENDING: u32 = 0x8889_000b;
 const CLIENTS_FULL: u32 = 0xa004_0002;
 
 /// Clients 1, 2 and 99.
-const ONE: &[u8] = b"\x01\0\0\0\0\0\0\0";
+pub const ONE: &[u8] = b"\x01\0\0\0\0\0\0\0";
 
-const TWO: &[u8] = b"\x02\0\0\0\0\0\0\0";
+pub const TWO: &[u8] = b"\x02\0\0\0\0\0\0\0";
 
 const OTHER: &[u8] = b"\x63\0\0\0\0\0\0\0";
 
@@ -68,11 +71,11 @@ const GET_1: &[u8] = b"\x01\0\0\0\0\0\0\0\x01\0\0\0";
 
 const GET_5: &[u8] = b"\x01\0\0\0\0\0\0\0\x05\0\0\0";
 
-const GET_7: &[u8] = b"\x01\0\0\0\0\0\0\0\x07\0\0\0";
+pub const GET_7: &[u8] = b"\x01\0\0\0\0\0\0\0\x07\0\0\0";
 
 const GET_10: &[u8] = b"\x01\0\0\0\0\0\0\0\x0a\0\0\0";
 
-const GET_480: &[u8] = b"\x01\0\0\0\0\0\0\0\xe0\x01\0\0";
+pub const GET_480: &[u8] = b"\x01\0\0\0\0\0\0\0\xe0\x01\0\0";
 
 const GET_960: &[u8] = b"\x01\0\0\0\0\0\0\0\xc0\x03\0\0";
 
@@ -84,11 +87,11 @@ const SILENT_0: &[u8] = b"\x01\0\0\0\0\0\0\0\0\0\0\0\x02\0\0\0";
 
 const SILENT_5: &[u8] = b"\x01\0\0\0\0\0\0\0\x05\0\0\0\x02\0\0\0";
 
-const SILENT_7: &[u8] = b"\x01\0\0\0\0\0\0\0\x07\0\0\0\x02\0\0\0";
+pub const SILENT_7: &[u8] = b"\x01\0\0\0\0\0\0\0\x07\0\0\0\x02\0\0\0";
 
 const SILENT_11: &[u8] = b"\x01\0\0\0\0\0\0\0\x0b\0\0\0\x02\0\0\0";
 
-const SILENT_480: &[u8] = b"\x01\0\0\0\0\0\0\0\xe0\x01\0\0\x02\0\0\0";
+pub const SILENT_480: &[u8] = b"\x01\0\0\0\0\0\0\0\xe0\x01\0\0\x02\0\0\0";
 
 const SILENT_48000: &[u8] = b"\x01\0\0\0\0\0\0\0\x80\xbb\0\0\x02\0\0\0";
 
@@ -121,7 +124,7 @@ const INITIALIZE_44100: &[u8] =
     b"\x02\0\0\0\0\0\0\0\0\0\0\0\0\0\0\0\0\0\0\0\0\0\0\0\0\0\0\0\0\0\0\0\x12\0\x01\0\x02\0\x44\xac\0\0\x10\xb1\x02\0\x04\0\x10\0\0\0\0\0\0\0\0\0\0\0\0\0\0\0\0\0\0\0";
 
 /// Activate (endpoint 1, role 0).
-const ACTIVATE_1: &[u8] = b"\x01\0\0\0\0";
+pub const ACTIVATE_1: &[u8] = b"\x01\0\0\0\0";
 
 /// Device event Add: endpoint 1, render, 44,100 Hz, two channels, `CD`; and Initialize of client 1 with its format.
 const ADD_44100: &[u8] =
@@ -293,6 +296,16 @@ pub fn put(exchange: &Exchange, input: &mut Vec<u8>, output: &mut Vec<u8>) -> Re
     let head = match ask {
         Ask::Call(code, fields) => put_call(1, code, fields, input)?,
         Ask::On(conn, code, fields) => put_call(conn, code, fields, input)?,
+        Ask::Device(code, fields) => {
+            input.extend_from_slice(&(size_of(fields) + 2).to_le_bytes())?;
+            input.extend_from_slice(&[5, code])?;
+            input.extend_from_slice(fields)?;
+            [5, 0, 0, 0, 0, 0]
+        }
+        Ask::Shutdown => {
+            input.extend_from_slice(b"\x01\0\0\0\x07")?;
+            [7, 0, 0, 0, 0, 0]
+        }
         Ask::Period => {
             input.extend_from_slice(b"\x05\0\0\0\x04\x01\0\0\0")?;
             [4, 0, 0, 0, 0, 0]

@@ -1,21 +1,21 @@
 //! Rows of calls on sessions and levels, each worked out by hand, and what is heard of them.
 
-use crate::rows::{Ask, E_HANDLE, Exchange, Row, S_OK, holds, put};
+use crate::rows::{Ask, E_HANDLE, Exchange, ONE, Row, S_OK, TWO, holds, put};
 use crate::run::Status;
 use crate::tests::{ACTIVATE, ADD, INITIALIZE, OPEN, joined, replay};
 use std::alloc::Global;
 use std::test::Fail;
 
-const E_INVALIDARG: u32 = 0x8007_0057;
+pub const E_INVALIDARG: u32 = 0x8007_0057;
 
-const E_NOTFOUND: u32 = 0x8007_0490;
+pub const E_NOTFOUND: u32 = 0x8007_0490;
 
 const SESSIONS_FULL: u32 = 0xa004_0003;
 
 /// Open: connection 2, process 11, `game`; and its Activate on endpoint 1, which makes client 2.
-const OPEN_2: &[u8] = b"\x0c\0\0\0\x01\x02\x0b\0\0\0\x04\0\x67\x61\x6d\x65";
+pub const OPEN_2: &[u8] = b"\x0c\0\0\0\x01\x02\x0b\0\0\0\x04\0\x67\x61\x6d\x65";
 
-const ACTIVATE_2: &[u8] = b"\x0c\0\0\0\x03\x02\x01\0\0\0\x05\x01\0\0\0\0";
+pub const ACTIVATE_2: &[u8] = b"\x0c\0\0\0\x03\x02\x01\0\0\0\x05\x01\0\0\0\0";
 
 /// Initialize (client, shared, flags, duration 0, period 0, the endpoint's format, null GUID): of clients 1 and 2 with
 /// CROSSPROCESS, and of client 2 with no flag.
@@ -25,18 +25,13 @@ const SHARED_1: &[u8] =
 const SHARED_2: &[u8] =
     b"\x02\0\0\0\0\0\0\0\0\0\0\0\0\0\x01\0\0\0\0\0\0\0\0\0\0\0\0\0\0\0\0\0\x12\0\x01\0\x02\0\x80\xbb\0\0\0\xee\x02\0\x04\0\x10\0\0\0\0\0\0\0\0\0\0\0\0\0\0\0\0\0\0\0";
 
-const OWN_2: &[u8] =
+pub const OWN_2: &[u8] =
     b"\x02\0\0\0\0\0\0\0\0\0\0\0\0\0\0\0\0\0\0\0\0\0\0\0\0\0\0\0\0\0\0\0\x12\0\x01\0\x02\0\x80\xbb\0\0\0\xee\x02\0\x04\0\x10\0\0\0\0\0\0\0\0\0\0\0\0\0\0\0\0\0\0\0";
-
-/// Client 1 or session 1, and session 2.
-const ONE: &[u8] = b"\x01\0\0\0\0\0\0\0";
-
-const TWO: &[u8] = b"\x02\0\0\0\0\0\0\0";
 
 /// SetMaster of session 1: half, all, and more than that; of session 2.
 const HALF: &[u8] = b"\x01\0\0\0\0\0\0\0\0\x80\0\0\0\0\0\0\0\0\0\0\0\0\0\0\0\0\0\0";
 
-const FULL: &[u8] = b"\x01\0\0\0\0\0\0\0\0\0\x01\0\0\0\0\0\0\0\0\0\0\0\0\0\0\0\0\0";
+pub const FULL: &[u8] = b"\x01\0\0\0\0\0\0\0\0\0\x01\0\0\0\0\0\0\0\0\0\0\0\0\0\0\0\0\0";
 
 const OVER: &[u8] = b"\x01\0\0\0\0\0\0\0\x01\0\x01\0\0\0\0\0\0\0\0\0\0\0\0\0\0\0\0\0";
 

@@ -91,7 +91,7 @@ pub fn replay(
     words.push("replay")?;
     words.push(".")?;
     let mut input = MemSource::new(Bytes::from_slice(alloc, bytes)?, reads.to_vec(alloc)?);
-    let mut output = MemSink::new(alloc, 10_000, writes.to_vec(alloc)?)?;
+    let mut output = MemSink::new(alloc, 20_000, writes.to_vec(alloc)?)?;
     let left = vec![in alloc; (EndpointNo(1), Bytes::new(alloc))]?;
     let held = MemDevices::new(alloc, left, 10_000, devices.to_vec(alloc)?)?;
     let (status, held) = run(alloc, &words, &mut input, &mut output, held);
@@ -234,7 +234,7 @@ fn frames_that_spell_no_event_are_malformed(rt: HostRuntime) -> Result<(), Fail>
         b"\xff\xff\xff\xff",
         b"\x01\0\0\0\0",
         b"\x01\0\0\0\x06",
-        b"\x01\0\0\0\x07",
+        b"\x02\0\0\0\x07\0",
         b"\x01\0\0\0\x08",
         b"\x01\0\0\0\xff",
         b"\x09\0\0\0\x01\0\x0a\0\0\0\x01\0a",

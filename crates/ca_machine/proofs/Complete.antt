@@ -1,10 +1,10 @@
 -- If no row refuses an event it is granted, unless memory ran out: a line for each call, by the lemma of its kind.
 use Rattle.std.proofs.Common.{◌≡◌, ℕ, List, [], ◌∷◌, ◌++◌, length, Bool, true, false, Option, Some, None, refl, sym, ap}
-use Rattle.std.proofs.Common.{◌∙◌, subst, inl, inr, is_none, nat_lt, ◌==◌, ◌||◌}
+use Rattle.std.proofs.Common.{◌∙◌, subst, inl, inr, is_none, nat_lt, not, option_map, ◌==◌, ◌||◌}
 use Rattle.std.proofs.lemmas.Bool.{true≢false, or_right}
 use Rattle.ca_base.specs.declared.codes.Hr.{Hr}
 use Rattle.ca_base.specs.declared.codes.TheConstants.Hr as hr
-use Rattle.ca_base.specs.declared.values.TheConstants.{SHARE_EXCLUSIVE}
+use Rattle.ca_base.specs.declared.values.TheConstants.{FLOW_CAPTURE, ROLE_COMMUNICATIONS, SHARE_EXCLUSIVE}
 use Rattle.ca_base.specs.Rows.{Row, first}
 use Rattle.ca_model.specs.declared.event.Event.TheVariants as event
 use Rattle.ca_model.specs.declared.event.Call.{Call}
@@ -23,7 +23,7 @@ use Rattle.session_manager.specs.declared.session.Session.{Session}
 use Rattle.session_manager.specs.Sessions.{session_at}
 use Rattle.session_manager.specs.Rows.{found_rows}
 use Rattle.ca_machine.specs.declared.state.Client.{Client}
-use Rattle.ca_machine.specs.declared.state.Endpoint.{Endpoint}
+use Rattle.device_registry.specs.declared.endpoint.Endpoint.{Endpoint}
 use Rattle.ca_machine.specs.State.{State, client_of, endpoint_at}
 use Rattle.ca_machine.specs.Plan.{Answer, AreAnswers, Outcome, Plan, plain, with_memory, answered, if_found}
 use Rattle.ca_machine.specs.Plan.{unless_refused}
@@ -31,17 +31,40 @@ use Rattle.ca_machine.specs.Plan.Asked.{nothing, memory}
 use Rattle.ca_machine.specs.Plan.Answer.{found, out_of_memory}
 use Rattle.ca_machine.specs.SharedRows.{control_rows, data_call_rows, client_rows, stream_rows, gate_of, with_stream}
 use Rattle.ca_machine.specs.SharedRows.{stream_plan, no_rows, is_inactive, is_invalidated, invalidated_rows}
-use Rattle.ca_machine.specs.SharedRows.{endpoint_of, with_endpoint}
+use Rattle.ca_machine.specs.SharedRows.{endpoint_of, shut_rows, with_endpoint}
 use Rattle.ca_machine.specs.Clients.{open_plan, release_plan, hangup_plan, activate_plan}
 use Rattle.ca_machine.specs.Streams.{Opening, later_rows, opening_rows, initialized, initialize_plan}
 use Rattle.ca_machine.specs.Streams.{get_stream_level_rows, set_stream_level_rows}
 use Rattle.ca_machine.specs.Sessions.{enum_sessions_plan, get_session_plan, session_payload, set_session_plan}
 use Rattle.ca_machine.specs.Sessions.{state_of_session, with_session}
 use Rattle.ca_machine.specs.Streams.{supported, format_payload, get_mix_format_plan}
-use Rattle.ca_machine.specs.Streams.{is_format_supported_plan, get_device_period_plan, is_malformed}
+use Rattle.ca_machine.specs.Streams.{is_faulty, is_format_supported_plan, get_device_period_plan, is_malformed}
 use Rattle.ca_machine.specs.Streams.{start_rows, stop_rows, reset_rows, get_service_rows}
 use Rattle.ca_machine.specs.Data.{side_of, seen_of, data_rows, data_plan}
-use Rattle.ca_machine.specs.Devices.{add_plan}
+use Rattle.device_registry.specs.Endpoints.{is_state}
+use Rattle.ca_machine.specs.Devices.{
+  add_plan,
+  remove_plan,
+  set_default_plan,
+  set_format_plan,
+  set_name_plan,
+  set_state_plan,
+  shutdown_plan,
+  with_endpoint_format,
+  with_endpoint_state,
+  with_named,
+}
+use Rattle.ca_machine.specs.Endpoints.{
+  default_at,
+  device_info_plan,
+  endpoint_named,
+  endpoint_told,
+  enum_endpoints_plan,
+  get_default_plan,
+  get_device_plan,
+  number_told,
+}
+use Rattle.ca_machine.specs.Registrations.{register_plan, take_notices_plan, unregister_plan}
 use Rattle.ca_machine.specs.Periods.{period_of}
 use Rattle.ca_machine.specs.Step.{unlisted_call_plan, unlisted_device_plan, call_plan, device_plan}
 use Rattle.ca_machine.specs.Complete.{IsGranted, GrantsUnlessShort, IsComplete, UnrefusedIsGranted}
@@ -183,12 +206,74 @@ set_complete st conn number by = plain_complete st (set_session_plan st conn num
 
 period_complete : (st : State) (o : Option Endpoint) → IsComplete st (period_of st o)
 period_complete st None =
-    plain_complete st (period_of st None) (λ n. absurd (row_holds [] true hr.E_NOTFOUND [] refl n))
+    plain_complete st (period_of st None) (λ n. absurd (row_holds (shut_rows st) true hr.E_NOTFOUND [] refl n))
 period_complete st (Some e) = complete_by st (period_of st (Some e)) (λ given a n. inl refl)
+
+-- calls and events of an endpoint: where there is none, a row has refused it
+get_default_complete : (st : State) (conn flow role : ℕ) → IsComplete st (get_default_plan st conn flow role)
+get_default_complete st conn flow role =
+    let wrong : Row Hr = (nat_lt FLOW_CAPTURE flow || nat_lt ROLE_COMMUNICATIONS role, hr.E_INVALIDARG) in
+    plain_complete st (get_default_plan st conn flow role) (λ n.
+    numbered (default_at flow role st)
+    (row_fails (control_rows conn st ++ wrong ∷ []) (is_none (default_at flow role st), hr.E_NOTFOUND) [] n))
+  where
+    numbered : (o : Option ℕ) → is_none o ≡ false → IsGranted (number_told st o).result
+    numbered None there = absurd (true≢false there)
+    numbered (Some number) there = inl refl
+
+get_device_complete : (st : State) (conn : ℕ) (id : List ℕ) → IsComplete st (get_device_plan st conn id)
+get_device_complete st conn id =
+    plain_complete st (get_device_plan st conn id) (λ n.
+    named (endpoint_named id st)
+    (row_fails (control_rows conn st) (is_none (endpoint_named id st), hr.E_NOTFOUND) [] n))
+  where
+    named : (o : Option Endpoint) → is_none o ≡ false →
+        IsGranted (number_told st (option_map (λ e. e.no.0) o)).result
+    named None there = absurd (true≢false there)
+    named (Some e) there = inl refl
+
+device_info_complete : (st : State) (conn number : ℕ) → IsComplete st (device_info_plan st conn number)
+device_info_complete st conn number =
+    plain_complete st (device_info_plan st conn number) (λ n.
+    shown (endpoint_at number st)
+    (row_fails (control_rows conn st) (is_none (endpoint_at number st), hr.E_NOTFOUND) [] n))
+  where
+    shown : (o : Option Endpoint) → is_none o ≡ false → IsGranted (endpoint_told st o).result
+    shown None there = absurd (true≢false there)
+    shown (Some e) there = inl refl
+
+named_granted : (st : State) (outcome : Endpoint → Outcome) → ((e : Endpoint) → IsGranted (outcome e).result) →
+    (o : Option Endpoint) → is_none o ≡ false → IsGranted (with_named st o outcome).result
+named_granted st outcome f None there = absurd (true≢false there)
+named_granted st outcome f (Some e) there = f e
+
+set_state_complete : (st : State) (number state : ℕ) → IsComplete st (set_state_plan st number state)
+set_state_complete st number state =
+    plain_complete st (set_state_plan st number state) (λ n.
+    named_granted st (with_endpoint_state st number state) (λ e. inl refl) (endpoint_at number st)
+    (row_fails (shut_rows st) (is_none (endpoint_at number st), hr.E_NOTFOUND)
+    ((not (is_state state), hr.E_INVALIDARG) ∷ []) n))
+
+set_format_complete : (st : State) (number : ℕ) (bytes : List ℕ) → IsComplete st (set_format_plan st number bytes)
+set_format_complete st number bytes =
+    memory_complete st (set_format_plan st number bytes) (λ n.
+    named_granted st (with_endpoint_format st number bytes) (λ e. inl refl) (endpoint_at number st)
+    (row_fails (shut_rows st) (is_none (endpoint_at number st), hr.E_NOTFOUND)
+    ((is_faulty bytes, hr.E_INVALIDARG) ∷ []) n))
 
 -- ---- every event
 
 call_complete : (st : State) (conn : ℕ) (x : Call) → IsComplete st (call_plan st conn x)
+call_complete st conn (call.EnumEndpoints flow mask) =
+    plain_complete st (enum_endpoints_plan st conn flow mask) (λ n. inl refl)
+call_complete st conn (call.GetDefault flow role) = get_default_complete st conn flow role
+call_complete st conn (call.GetDevice id) = get_device_complete st conn id
+call_complete st conn (call.DeviceInfo e) = device_info_complete st conn e.0
+call_complete st conn (call.Register class subject) =
+    memory_complete st (register_plan st conn class subject) (λ n. inl refl)
+call_complete st conn (call.Unregister number) = plain_complete st (unregister_plan st conn number) (λ n. inl refl)
+call_complete st conn (call.TakeNotices max) = plain_complete st (take_notices_plan st conn max) (λ n. inl refl)
+call_complete st conn (call.AwaitNotices max) = plain_complete st (take_notices_plan st conn max) (λ n. inl refl)
 call_complete st conn (call.Activate e role) = plain_complete st (activate_plan st conn e.0 role) (λ n. inl refl)
 call_complete st conn (call.Release c) = release_complete st conn c.0
 call_complete st conn (call.Initialize c share flags duration period format session) =
@@ -236,8 +321,14 @@ call_complete st conn (call.Other code rest) =
 device_complete : (st : State) (x : DeviceEvent) → IsComplete st (device_plan st x)
 device_complete st (device.Add e flow format name) =
     memory_complete st (add_plan st e.0 flow format.list name) (λ n. inl refl)
+device_complete st (device.SetState e state) = set_state_complete st e.0 state
+device_complete st (device.Remove e) = plain_complete st (remove_plan st e.0) (λ n. inl refl)
+device_complete st (device.SetFormat e format) = set_format_complete st e.0 format.list
+device_complete st (device.SetDefault flow role e) =
+    plain_complete st (set_default_plan st flow role e.0) (λ n. inl refl)
+device_complete st (device.SetName e name) = plain_complete st (set_name_plan st e.0 name) (λ n. inl refl)
 device_complete st (device.Other code rest) =
-    plain_complete st (unlisted_device_plan st) (λ n. absurd (row_holds [] true hr.E_NOTIMPL [] refl n))
+    plain_complete st (unlisted_device_plan st) (λ n. absurd (row_holds (shut_rows st) true hr.E_NOTIMPL [] refl n))
 
 pub unrefused_is_granted : UnrefusedIsGranted
 unrefused_is_granted st (event.Open c process name) = plain_complete st (open_plan st c.0 process name) (λ n. inl refl)
@@ -245,3 +336,4 @@ unrefused_is_granted st (event.Hangup c) = hangup_complete st c.0
 unrefused_is_granted st (event.Call c tag x) = call_complete st c.0 x
 unrefused_is_granted st (event.Period e) = period_complete st (endpoint_at e.0 st)
 unrefused_is_granted st (event.Device x) = device_complete st x
+unrefused_is_granted st event.Shutdown = plain_complete st (shutdown_plan st) (λ n. inl refl)

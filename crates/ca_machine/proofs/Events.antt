@@ -1,11 +1,12 @@
 -- Every event upholds the headline: a line for each call, by the lemma of its kind.
-use Rattle.std.proofs.Common.{◌≡◌, ℕ, ◌+◌, ◌==◌, List, [], ◌∷◌, ◌++◌, length, true, false, Option}
+use Rattle.std.proofs.Common.{◌≡◌, ℕ, ◌+◌, ◌<◌, ◌==◌, ◌||◌, option_map, List, [], ◌∷◌, ◌++◌, length, true, false, Option}
 use Rattle.std.proofs.Common.{Some, None, refl, sym, ap, ◌∙◌, subst, is_none, eqb-true}
 use Rattle.std.proofs.lemmas.Bool.{true≢false}
 use Rattle.std.specs.Int.{w32, w64, to_le_bytes}
 use Rattle.ca_base.specs.declared.codes.Hr.{Hr}
 use Rattle.ca_base.specs.declared.codes.TheConstants.Hr as hr
 use Rattle.ca_base.specs.declared.ids.Gate.{Gate}
+use Rattle.ca_base.specs.declared.ids.Reason.TheVariants.{Shutdown}
 use Rattle.ca_base.specs.declared.ids.Gate.TheVariants as gate
 use Rattle.ca_base.specs.Rows.{Row, first}
 use Rattle.ca_model.specs.declared.event.Event.{Event}
@@ -13,29 +14,28 @@ use Rattle.ca_model.specs.declared.event.Event.TheVariants as event
 use Rattle.ca_model.specs.declared.event.Call.{Call}
 use Rattle.ca_model.specs.declared.event.Call.TheVariants as call
 use Rattle.ca_model.specs.declared.event.DeviceEvent.{DeviceEvent}
-use Rattle.ca_model.specs.declared.event.DeviceEvent.TheVariants as device
 use Rattle.client_state.specs.declared.check.DataCall.{DataCall}
 use Rattle.client_state.specs.declared.check.DataCall.TheVariants as data_call
 use Rattle.client_state.specs.Rows.{is_closed, is_shut_down, call_rows}
 use Rattle.ca_stage.specs.Stage.{Stream, is_open_gate, is_open, padding}
-use Rattle.ca_stage.specs.Moves.{Move, added, opened, of_client, leased, released, started, stopped, reset, stream_at}
+use Rattle.ca_stage.specs.Moves.{Move, opened, of_client, leased, released, started, stopped, reset, stream_at}
 use Rattle.ca_stage.specs.Order.{is_among}
-use Rattle.ca_stage.proofs.Lists.{chosen, all-append, all_found, found_passes}
+use Rattle.ca_stage.proofs.Lists.{chosen, all_found, found_passes}
 use Rattle.session_manager.specs.declared.changes.Change.{Change}
 use Rattle.session_manager.specs.declared.changes.Change.TheVariants as change
 use Rattle.session_manager.specs.declared.session.Session.{Session}
-use Rattle.session_manager.specs.Changes.{after as changed_by}
 use Rattle.session_manager.specs.declared.session.SessionKey.{SessionKey}
-use Rattle.session_manager.specs.Sessions.{SessionList, changed, joined, number_joined, session_at}
+use Rattle.session_manager.specs.Sessions.{SessionList, joined, number_joined, session_at}
 use Rattle.ca_machine.specs.declared.state.Client.{Client}
-use Rattle.ca_machine.specs.declared.state.Endpoint.{Endpoint}
-use Rattle.ca_machine.specs.State.{State, live_clients, is_client_of, client_of, is_endpoint, endpoint_at}
+use Rattle.device_registry.specs.declared.endpoint.Endpoint.{Endpoint}
+use Rattle.device_registry.specs.Endpoints.{is_endpoint}
+use Rattle.ca_machine.specs.State.{State, live_clients, is_client_of, client_of, endpoint_at}
 use Rattle.ca_machine.specs.State.{session_list, with_sessions}
-use Rattle.ca_machine.specs.Plan.{Answer, AreAnswers, answered, moved, granted, Plan, outcome_of}
+use Rattle.ca_machine.specs.Plan.{Answer, AreAnswers, answered, granted, Plan, outcome_of}
 use Rattle.ca_machine.specs.Plan.{unless_row, asked_of}
 use Rattle.ca_machine.specs.SharedRows.{data_call_rows, client_rows, no_rows, endpoint_of}
 use Rattle.ca_machine.specs.Clients.{open_plan, is_client_on, without_connection, hangup_plan, activate_plan}
-use Rattle.ca_machine.specs.Clients.{release_plan, new_connection}
+use Rattle.ca_machine.specs.Clients.{release_plan}
 use Rattle.ca_machine.specs.Streams.{format_payload, Opening, new_stream, endpoint_channels, is_kept, opened_in}
 use Rattle.ca_machine.specs.Streams.{initialize_plan, initialized, joined_by, session_key, supported}
 use Rattle.ca_machine.specs.Streams.{get_mix_format_plan, get_stream_level_rows, set_stream_level_rows}
@@ -44,36 +44,20 @@ use Rattle.ca_machine.specs.Streams.{get_device_period_plan, is_format_supported
 use Rattle.ca_machine.specs.Streams.{stop_rows, reset_rows}
 use Rattle.ca_machine.specs.Sessions.{enum_sessions_plan, get_session_plan, set_session_plan, with_session}
 use Rattle.ca_machine.specs.Data.{side_of, seen_of, data_rows, frames_released, release_buffer_plan}
-use Rattle.ca_machine.specs.Devices.{new_endpoint, add_plan}
+use Rattle.ca_machine.specs.Endpoints.{default_at, device_info_plan, endpoint_named, endpoint_payload, endpoint_told, enum_endpoints_plan, get_default_plan, get_device_plan, number_told}
+use Rattle.ca_machine.specs.Registrations.{register_plan, take_notices_plan, unregister_plan}
 use Rattle.ca_machine.specs.Periods.{mixing_of, period_of}
-use Rattle.ca_machine.specs.Step.{unlisted_call_plan, unlisted_device_plan, call_plan, device_plan, step, asks}
+use Rattle.ca_machine.specs.Step.{unlisted_call_plan, call_plan, plan, step, asks}
+use Rattle.ca_machine.specs.Step.{tells}
 use Rattle.ca_machine.specs.Headline.{handed, handed_by}
 use Rattle.ca_machine.proofs.LiveClients.{found_is_live, found_number}
 use Rattle.ca_machine.proofs.PresentStage.{PresentLaws, stage_of}
 use Rattle.ca_machine.proofs.Playheads.{HasHead}
-use Rattle.ca_machine.proofs.StateInOrder.{IsInOrder, in_order_moved, in_order_made, in_order_others}
-use Rattle.ca_machine.proofs.StateInOrder.{in_order_endpoints, in_order_levels, heads_added}
+use Rattle.ca_machine.proofs.StateInOrder.{IsInOrder, in_order_levels, in_order_made}
+use Rattle.ca_machine.proofs.StateInOrder.{in_order_moved}
 use Rattle.ca_machine.proofs.FramesHanded.{HandsNone, HandsOver, none_by, none_refused, released_is_handed}
-use Rattle.ca_machine.proofs.Outcomes.{
-  Upholds,
-  row_fails,
-  RefuseAll,
-  first_refuses,
-  upholds_still,
-  upholds_refused,
-  upholds_answered,
-  upholds_quiet,
-  upholds_move,
-  upholds_leaving,
-  upholds_sounding,
-  upholds_rows,
-  upholds_plan,
-  upholds_memory,
-  upholds_with_stream,
-  upholds_stream,
-  upholds_data,
-  upholds_with_endpoint,
-}
+use Rattle.ca_machine.proofs.Outcomes.{Upholds, row_fails, RefuseAll, first_refuses, upholds_still, upholds_refused, upholds_answered, upholds_quiet, upholds_move, upholds_leaving, upholds_sounding, upholds_rows, upholds_plan, upholds_memory, upholds_with_stream, upholds_stream, upholds_data, upholds_with_endpoint, upholds_noticed}
+use Rattle.ca_machine.proofs.DeviceEvents.{upholds_changed, upholds_device, upholds_shutdown}
 
 -- ---- the rows of data calls
 
@@ -109,21 +93,19 @@ pub asked_where : (p : Plan) (given : List Answer) → first p.rows ≡ None →
 asked_where p given n a = subst (λ o. AreAnswers (unless_row o p.asks) given) n a
 
 module _ (laws : PresentLaws) (ms : List Move) (st : State) (h : IsInOrder ms st) (e : Event) where
-  -- ---- Open, Hangup, Activate, Release, and Add
+  -- ---- Open, Hangup, Activate, and Release
 
   upholds_open : (conn process : ℕ) (name : List ℕ) (given : List Answer) → HandsNone e →
       Upholds ms st e (outcome_of st (open_plan st conn process name) given)
   upholds_open conn process name given n =
       upholds_plan laws ms st h e (open_plan st conn process name) given n
-      (λ r. upholds_still laws ms st h e hr.S_OK [] _ (none_by (stage_of ms) e hr.S_OK n)
-      (in_order_others ms st (st.connections ++ new_connection conn process name ∷ []) st.sessions st.sessions_made h))
+      (λ r. upholds_changed laws ms st h e _ n h)
 
   upholds_hangup : (conn : ℕ) (given : List Answer) → HandsNone e →
       Upholds ms st e (outcome_of st (hangup_plan st conn) given)
   upholds_hangup conn given n =
       upholds_plan laws ms st h e (hangup_plan st conn) given n
-      (λ r. upholds_leaving laws ms st h e (without_connection conn st) (is_client_on conn) n
-      (in_order_others ms st (without_connection conn st).connections st.sessions st.sessions_made h))
+      (λ r. upholds_leaving laws ms st h e (without_connection conn st) (is_client_on conn) n h)
 
   upholds_activate : (conn endpoint role : ℕ) (given : List Answer) → HandsNone e →
       Upholds ms st e (outcome_of st (activate_plan st conn endpoint role) given)
@@ -138,19 +120,35 @@ module _ (laws : PresentLaws) (ms : List Move) (st : State) (h : IsInOrder ms st
       upholds_plan laws ms st h e (release_plan st conn client) given n
       (λ r. upholds_leaving laws ms st h e st (is_client_of conn client) n h)
 
-  upholds_add : (number flow : ℕ) (format name : List ℕ) (given : List Answer) → HandsNone e →
-      Upholds ms st e (outcome_of st (add_plan st number flow format name) given)
-  upholds_add number flow format name given n =
-      let x : List Move = added number ∷ [] in
-      let k : IsInOrder (ms ++ x) (moved x st) = in_order_moved laws ms x st h (tt, tt) tt in
-      let endpoints : List Endpoint = st.endpoints ++ new_endpoint number format name ∷ [] in
-      upholds_plan laws ms st h e (add_plan st number flow format name) given n
+  -- ---- what a connection registers for
+
+  upholds_register : (conn class subject : ℕ) (given : List Answer) → HandsNone e →
+      Upholds ms st e (outcome_of st (register_plan st conn class subject) given)
+  upholds_register conn class subject given n =
+      upholds_plan laws ms st h e (register_plan st conn class subject) given n
       (λ r. upholds_memory laws ms st h e _ given n
-      (upholds_quiet laws ms st h e (granted [] x (record st { endpoints = endpoints; last_endpoint = number })) n
-      (refl, tt) refl
-      (in_order_endpoints (ms ++ x) (moved x st) endpoints number k
-      (all-append (λ (d : Endpoint). HasHead d.endpoint.0 (stage_of (ms ++ x))) st.endpoints _ k.heads
-      (heads_added ms number, tt)))))
+      (upholds_still laws ms st h e hr.S_OK _ _ (none_by (stage_of ms) e hr.S_OK n) h))
+
+  upholds_unregister : (conn number : ℕ) (given : List Answer) → HandsNone e →
+      Upholds ms st e (outcome_of st (unregister_plan st conn number) given)
+  upholds_unregister conn number given n =
+      upholds_plan laws ms st h e (unregister_plan st conn number) given n (λ r. upholds_changed laws ms st h e _ n h)
+
+  upholds_take : (conn max : ℕ) (given : List Answer) → HandsNone e →
+      Upholds ms st e (outcome_of st (take_notices_plan st conn max) given)
+  upholds_take conn max given n =
+      upholds_plan laws ms st h e (take_notices_plan st conn max) given n
+      (λ r. upholds_still laws ms st h e hr.S_OK _ _ (none_by (stage_of ms) e hr.S_OK n) h)
+
+  -- ---- calls that tell of endpoints
+
+  upholds_number : (o : Option ℕ) → HandsNone e → Upholds ms st e (number_told st o)
+  upholds_number None n = upholds_refused laws ms st h e hr.E_NOTFOUND (none_by (stage_of ms) e hr.E_NOTFOUND n)
+  upholds_number (Some number) n = upholds_answered laws ms st h e (to_le_bytes w32 number) n
+
+  upholds_endpoint : (o : Option Endpoint) → HandsNone e → Upholds ms st e (endpoint_told st o)
+  upholds_endpoint None n = upholds_refused laws ms st h e hr.E_NOTFOUND (none_by (stage_of ms) e hr.E_NOTFOUND n)
+  upholds_endpoint (Some d) n = upholds_answered laws ms st h e (endpoint_payload d) n
 
   -- ---- Initialize
 
@@ -158,15 +156,14 @@ module _ (laws : PresentLaws) (ms : List Move) (st : State) (h : IsInOrder ms st
       is_among c.client.0 (live_clients new.clients) ≡ true → Upholds ms st e (opened_in new c x session)
   upholds_opened new c x session n k a =
       upholds_quiet laws ms st h e (opened_in new c x session) n (refl, tt) refl
-      (in_order_moved laws ms (opened (new_stream c x session) ∷ []) new k (a, tt) tt)
+      (in_order_moved laws ms (opened (new_stream c x session) ∷ []) new k (a, tt) (refl, tt) tt)
 
   upholds_joined : (c : Client) (x : Opening) (key : SessionKey) → HandsNone e →
       is_among c.client.0 (live_clients st.clients) ≡ true → Upholds ms st e (joined_by st c x key)
   upholds_joined c x key n a =
       let l : SessionList =
       joined key None (is_kept x.flags) (endpoint_channels st c) (session_list st) in
-      upholds_opened (with_sessions l st) c x (number_joined key (session_list st)) n
-      (in_order_others ms st st.connections l.list l.made h) a
+      upholds_opened (with_sessions l st) c x (number_joined key (session_list st)) n h a
 
   upholds_initialized : (conn client : ℕ) (o : Option Client) (x : Opening) → HandsNone e →
       client_of conn client st ≡ o → Upholds ms st e (initialized st conn o x)
@@ -188,8 +185,7 @@ module _ (laws : PresentLaws) (ms : List Move) (st : State) (h : IsInOrder ms st
       Upholds ms st e (outcome_of st (set_session_plan st conn number by) given)
   upholds_set conn number by given n =
       upholds_plan laws ms st h e (set_session_plan st conn number by) given n
-      (λ r. upholds_still laws ms st h e hr.S_OK [] _ (none_by (stage_of ms) e hr.S_OK n)
-      (in_order_others ms st st.connections (changed number (changed_by by) st.sessions) st.sessions_made h))
+      (λ r. upholds_changed laws ms st h e _ n h)
 
   upholds_told : (o : Option Session) (payload : Session → List ℕ) → HandsNone e →
       Upholds ms st e (with_session st o (λ s. answered st (payload s)))
@@ -229,7 +225,7 @@ module _ (laws : PresentLaws) (ms : List Move) (st : State) (h : IsInOrder ms st
   upholds_released conn client frames flags bytes s hands t k o = record {
     order =
         in_order_moved laws ms (of_client client (released (frames_released frames flags bytes s.channels)) ∷ []) st h
-        (tt, tt) tt;
+        (tt, tt) (refl, tt) tt;
     mixes = tt;
     plays = refl;
     hands = λ n.
@@ -265,10 +261,10 @@ module _ (laws : PresentLaws) (ms : List Move) (st : State) (h : IsInOrder ms st
 
   -- ---- Period
 
-  found_again : (number : ℕ) (d : Endpoint) → endpoint_at number st ≡ Some d → endpoint_at d.endpoint.0 st ≡ Some d
+  found_again : (number : ℕ) (d : Endpoint) → endpoint_at number st ≡ Some d → endpoint_at d.no.0 st ≡ Some d
   found_again number d k =
       ap (λ n. endpoint_at n st)
-      (eqb-true d.endpoint.0 number (found_passes (is_endpoint number) st.endpoints d k)) ∙ k
+      (eqb-true d.no.0 number (found_passes (is_endpoint number) st.endpoints d k)) ∙ k
 
   upholds_period : (number : ℕ) (o : Option Endpoint) (given : List Answer) → HandsNone e → endpoint_at number st ≡ o →
       AreAnswers (asked_of (period_of st o)) given → Upholds ms st e (outcome_of st (period_of st o) given)
@@ -278,7 +274,7 @@ module _ (laws : PresentLaws) (ms : List Move) (st : State) (h : IsInOrder ms st
   upholds_period number (Some d) given n k a =
       upholds_plan laws ms st h e (period_of st (Some d)) given n
       (λ r. upholds_sounding laws ms st h e (mixing_of st d) given n (d, found_again number d k, refl)
-      (all_found (λ (d : Endpoint). HasHead d.endpoint.0 (stage_of ms)) (is_endpoint number) st.endpoints d h.heads k)
+      (all_found (λ (d : Endpoint). HasHead d.no.0 (stage_of ms)) (is_endpoint number) st.endpoints d h.heads k)
       (asked_where (period_of st (Some d)) given r a))
 
   -- ---- every event
@@ -286,6 +282,22 @@ module _ (laws : PresentLaws) (ms : List Move) (st : State) (h : IsInOrder ms st
   upholds_call : (conn : ℕ) (x : Call) (given : List Answer) →
       ((n channels : ℕ) → handed_by n channels e ≡ handed n channels x) →
       Upholds ms st e (outcome_of st (call_plan st conn x) given)
+  upholds_call conn (call.EnumEndpoints flow mask) given n =
+      upholds_plan laws ms st h e (enum_endpoints_plan st conn flow mask) given n
+      (λ r. upholds_answered laws ms st h e _ n)
+  upholds_call conn (call.GetDefault flow role) given n =
+      upholds_plan laws ms st h e (get_default_plan st conn flow role) given n
+      (λ r. upholds_number (default_at flow role st) n)
+  upholds_call conn (call.GetDevice id) given n =
+      upholds_plan laws ms st h e (get_device_plan st conn id) given n
+      (λ r. upholds_number (option_map (λ d. d.no.0) (endpoint_named id st)) n)
+  upholds_call conn (call.DeviceInfo d) given n =
+      upholds_plan laws ms st h e (device_info_plan st conn d.0) given n
+      (λ r. upholds_endpoint (endpoint_at d.0 st) n)
+  upholds_call conn (call.Register class subject) given n = upholds_register conn class subject given n
+  upholds_call conn (call.Unregister number) given n = upholds_unregister conn number given n
+  upholds_call conn (call.TakeNotices max) given n = upholds_take conn max given n
+  upholds_call conn (call.AwaitNotices max) given n = upholds_take conn max given n
   upholds_call conn (call.Activate d role) given n = upholds_activate conn d.0 role given n
   upholds_call conn (call.Release c) given n = upholds_release conn c.0 given n
   upholds_call conn (call.Initialize c share flags duration period format session) given n =
@@ -320,13 +332,13 @@ module _ (laws : PresentLaws) (ms : List Move) (st : State) (h : IsInOrder ms st
       (λ r. upholds_answered laws ms st h e _ n)
   upholds_call conn (call.Start c) given n =
       upholds_stream laws ms st h e conn c.0 start_rows _ given n
-      (λ s. upholds_move laws ms st h e [] (of_client c.0 started) n refl refl tt)
+      (λ s. upholds_move laws ms st h e [] (of_client c.0 started) n refl refl refl tt)
   upholds_call conn (call.Stop c) given n =
       upholds_stream laws ms st h e conn c.0 stop_rows _ given n
-      (λ s. upholds_move laws ms st h e [] (of_client c.0 stopped) n refl refl tt)
+      (λ s. upholds_move laws ms st h e [] (of_client c.0 stopped) n refl refl refl tt)
   upholds_call conn (call.Reset c) given n =
       upholds_stream laws ms st h e conn c.0 reset_rows _ given n
-      (λ s. upholds_move laws ms st h e [] (of_client c.0 reset) n refl refl tt)
+      (λ s. upholds_move laws ms st h e [] (of_client c.0 reset) n refl refl refl tt)
   upholds_call conn (call.GetService c service) given n =
       upholds_stream laws ms st h e conn c.0 (get_service_rows service) _ given n
       (λ s. upholds_answered laws ms st h e [] n)
@@ -339,7 +351,7 @@ module _ (laws : PresentLaws) (ms : List Move) (st : State) (h : IsInOrder ms st
       upholds_stream_level conn c.0 channel level given n
   upholds_call conn (call.GetBuffer c frames) given n =
       upholds_data laws ms st h e conn c.0 (data_call.Get frames) _ given n
-      (λ s. upholds_move laws ms st h e [] (of_client c.0 (leased frames)) n refl refl tt)
+      (λ s. upholds_move laws ms st h e [] (of_client c.0 (leased frames)) n refl refl refl tt)
   upholds_call conn (call.ReleaseBuffer c frames flags bytes) given n =
       upholds_release_buffer conn c.0 frames flags bytes.list given n
   upholds_call conn (call.EnumSessions d) given n =
@@ -364,22 +376,23 @@ module _ (laws : PresentLaws) (ms : List Move) (st : State) (h : IsInOrder ms st
       upholds_plan laws ms st h e (unlisted_call_plan st conn) given n
       (λ r. upholds_refused laws ms st h e hr.E_NOTIMPL (none_by (stage_of ms) e hr.E_NOTIMPL n))
 
-  upholds_device : (x : DeviceEvent) (given : List Answer) → HandsNone e →
-      Upholds ms st e (outcome_of st (device_plan st x) given)
-  upholds_device (device.Add d flow format name) given n = upholds_add d.0 flow format.list name given n
-  upholds_device (device.Other code rest) given n =
-      upholds_plan laws ms st h e (unlisted_device_plan st) given n
-      (λ r. upholds_refused laws ms st h e hr.E_NOTIMPL (none_by (stage_of ms) e hr.E_NOTIMPL n))
+upholds_planned : (laws : PresentLaws) (ms : List Move) (st : State) → IsInOrder ms st → (e : Event)
+    (given : List Answer) → AreAnswers (asks st e) given → Upholds ms st e (outcome_of st (plan st e) given)
+upholds_planned laws ms st h (event.Open c process name) given a =
+    upholds_open laws ms st h (event.Open c process name) c.0 process name given (λ n channels. refl)
+upholds_planned laws ms st h (event.Hangup c) given a =
+    upholds_hangup laws ms st h (event.Hangup c) c.0 given (λ n channels. refl)
+upholds_planned laws ms st h (event.Call c tag x) given a =
+    upholds_call laws ms st h (event.Call c tag x) c.0 x given (λ n channels. refl)
+upholds_planned laws ms st h (event.Period d) given a =
+    upholds_period laws ms st h (event.Period d) d.0 (endpoint_at d.0 st) given (λ n channels. refl) refl a
+upholds_planned laws ms st h (event.Device x) given a =
+    upholds_device laws ms st h (event.Device x) x given (λ n channels. refl)
+upholds_planned laws ms st h event.Shutdown given a =
+    upholds_shutdown laws ms st h event.Shutdown given (λ n channels. refl)
 
 pub upholds_event : (laws : PresentLaws) (ms : List Move) (st : State) → IsInOrder ms st → (e : Event)
     (given : List Answer) → AreAnswers (asks st e) given → Upholds ms st e (step st e given)
-upholds_event laws ms st h (event.Open c process name) given a =
-    upholds_open laws ms st h (event.Open c process name) c.0 process name given (λ n channels. refl)
-upholds_event laws ms st h (event.Hangup c) given a =
-    upholds_hangup laws ms st h (event.Hangup c) c.0 given (λ n channels. refl)
-upholds_event laws ms st h (event.Call c tag x) given a =
-    upholds_call laws ms st h (event.Call c tag x) c.0 x given (λ n channels. refl)
-upholds_event laws ms st h (event.Period d) given a =
-    upholds_period laws ms st h (event.Period d) d.0 (endpoint_at d.0 st) given (λ n channels. refl) refl a
-upholds_event laws ms st h (event.Device x) given a =
-    upholds_device laws ms st h (event.Device x) x given (λ n channels. refl)
+upholds_event laws ms st h e given a =
+    upholds_noticed laws ms st h e (tells e given) (outcome_of st (plan st e) given)
+    (upholds_planned laws ms st h e given a)

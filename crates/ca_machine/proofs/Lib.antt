@@ -3,10 +3,13 @@ pub mod ClosesOfClients
 pub mod PeriodMoves
 pub mod PresentStage
 pub mod Playheads
+pub mod PlayheadsThere
 pub mod StateInOrder
 pub mod SoundsTaken
 pub mod FramesHanded
 pub mod Outcomes
+pub mod Disconnects
+pub mod DeviceEvents
 pub mod Events
 pub mod Complete
 pub mod Runs

@@ -1,5 +1,5 @@
 -- Each kind of outcome and of plan upholds the headline: one lemma for each, which the calls of that kind share.
-use Rattle.std.proofs.Common.{◌≡◌, ℕ, not, List, [], ◌∷◌, ◌++◌, length, filter, Bool, true, false, Option, Some}
+use Rattle.std.proofs.Common.{◌≡◌, ℕ, ◌==◌, not, List, [], ◌∷◌, ◌++◌, length, filter, Bool, true, false, Option, Some}
 use Rattle.std.proofs.Common.{None, refl, sym, ap, ◌∙◌, subst, if◌then◌else◌}
 use Rattle.std.proofs.lemmas.Bool.{false≢true}
 use Rattle.std.proofs.lemmas.Option.{same_Some, none-some}
@@ -14,22 +14,25 @@ use Rattle.ca_stage.specs.Moves.{released, Move, of_client, sounded, Mixing, is_
 use Rattle.ca_stage.specs.Moves.{after_moves, picks, after_sound, sub_steps}
 use Rattle.ca_stage.specs.Fates.{passing, all_released}
 use Rattle.ca_stage.specs.Woven.{is_sub_step, IsWoven}
-use Rattle.ca_stage.specs.Present.{OpensPresent}
+use Rattle.ca_stage.specs.Present.{present, OpensPresent}
 use Rattle.ca_stage.proofs.Lists.{chosen, all_weaker}
 use Rattle.ca_stage.proofs.Stages.{woven_one, woven_period}
 use Rattle.ca_machine.specs.declared.state.Client.{Client}
-use Rattle.ca_machine.specs.declared.state.Endpoint.{Endpoint}
-use Rattle.ca_machine.specs.State.{State, live_clients}
+use Rattle.device_registry.specs.declared.endpoint.Endpoint.{Endpoint}
+use Rattle.ca_machine.specs.State.{State, endpoint_numbers, live_clients}
 use Rattle.ca_machine.specs.Plan.{Answer, out_of_memory, IsWriting, is_whole, pieces, Outcome, moved, refused}
 use Rattle.ca_machine.specs.Plan.{granted, Plan, if_found, unless_refused, outcome_of}
 use Rattle.ca_machine.specs.SharedRows.{with_stream, stream_plan, with_endpoint}
 use Rattle.ca_machine.specs.Clients.{closes, leaving}
 use Rattle.ca_machine.specs.Data.{data_plan}
+use Rattle.ca_machine.specs.Devices.{with_named}
+use Rattle.ca_machine.specs.Notices.{told}
 use Rattle.ca_machine.specs.Periods.{bytes_due, sounding}
 use Rattle.ca_machine.specs.Headline.{handed_in, IsMixingOf, MixesBy, Sound, sound_made, sounds_made, AreTaken}
 use Rattle.ca_machine.proofs.PeriodMoves.{OfSubSteps, picks_all, after_sound_all, sub_steps_all}
 use Rattle.ca_machine.proofs.PresentStage.{PresentLaws, stage_of, sub_steps_open_none, sound_present}
 use Rattle.ca_machine.proofs.Playheads.{HasHead}
+use Rattle.ca_machine.proofs.PlayheadsThere.{adds_none, bytes_there, steps_there}
 use Rattle.ca_machine.proofs.StateInOrder.{IsInOrder, in_order_still, in_order_moved, in_order_leaving, in_order_period}
 use Rattle.ca_machine.proofs.SoundsTaken.{sounds_none, sounds_of_period, sound_is_taken}
 use Rattle.ca_machine.proofs.FramesHanded.{ReleasesNone, releases_none, HandsNone, HandsNoneBy, none_by, Refuses}
@@ -122,6 +125,9 @@ mixes_period st m whole stage h =
           (after_sound_all (λ x. is_quiet x ≡ true) quiet_steps m whole (after_moves stage (picks m stage))),
     )
 
+period_adds : OfSubSteps (λ x. adds_none x ≡ true)
+period_adds = record { picks = λ n k. refl; retires = λ n. refl; closes = λ n. refl; finish = λ m b. refl }
+
 period_releases : OfSubSteps ReleasesNone
 period_releases = record {
   picks = λ n k s. passes_none n s;
@@ -172,10 +178,10 @@ module _ (laws : PresentLaws) (ms : List Move) (st : State) (h : IsInOrder ms st
 
   -- one move, which is no sub-step and opens at most a live client's stream
   pub upholds_move : (payload : List ℕ) (x : Move) → HandsNone e → is_sub_step x ≡ false → is_quiet x ≡ true →
-      OpensPresent (live_clients st.clients) x → Upholds ms st e (granted payload (x ∷ []) st)
-  upholds_move payload x n s q o =
+      adds_none x ≡ true → OpensPresent (live_clients st.clients) x → Upholds ms st e (granted payload (x ∷ []) st)
+  upholds_move payload x n s q a o =
       upholds_quiet (granted payload (x ∷ []) st) n (q, tt) refl
-      (in_order_moved laws ms (x ∷ []) st h (o, tt) (woven_one (stage_of ms) x s))
+      (in_order_moved laws ms (x ∷ []) st h (o, tt) (a, tt) (woven_one (stage_of ms) x s))
 
   -- clients go, from a state that may differ in what isn't on the stage
   pub upholds_leaving : (new : State) (p : Client → Bool) → HandsNone e → IsInOrder ms new →
@@ -190,15 +196,19 @@ module _ (laws : PresentLaws) (ms : List Move) (st : State) (h : IsInOrder ms st
       Upholds ms st e (sounding st m given)
   upholds_sounding m given n mix head w =
       let whole : Bool = is_whole given in
+      let shown : Stage = present (live_clients st.clients) (stage_of ms) in
       let steps : sub_steps m whole st.stage ≡ sub_steps m whole (stage_of ms) =
-      ap (sub_steps m whole) h.stands ∙ (laws.is_whole (live_clients st.clients) ms h.gone).periods m whole in
+      ap (sub_steps m whole) h.stands ∙ steps_there (endpoint_numbers st.endpoints) shown m whole
+      ∙ (laws.is_whole (live_clients st.clients) ms h.gone).periods m whole in
       let bytes : bytes_due m (stage_of ms) ≡ bytes_due m st.stage =
-      sym (ap (bytes_due m) h.stands ∙ sound_present laws (live_clients st.clients) ms m h.gone) in
+      sym (ap (bytes_due m) h.stands ∙ bytes_there (endpoint_numbers st.endpoints) shown m
+      ∙ sound_present laws (live_clients st.clients) ms m h.gone) in
       record {
         order =
             in_order_period (ms ++ sub_steps m whole st.stage) (moved (sub_steps m whole st.stage) st) m.endpoint whole
             (in_order_moved laws ms (sub_steps m whole st.stage) st h
             (sub_steps_open_none (live_clients st.clients) m whole st.stage)
+            (sub_steps_all (λ x. adds_none x ≡ true) period_adds m whole refl st.stage)
             (subst (IsWoven (stage_of ms) []) (sym steps) (woven_period m whole head.head (stage_of ms) head.there)));
         mixes = mixes_period st m whole st.stage mix;
         plays =
@@ -261,3 +271,16 @@ module _ (laws : PresentLaws) (ms : List Move) (st : State) (h : IsInOrder ms st
   upholds_with_endpoint None outcome n f =
       upholds_refused hr.DEVICE_INVALIDATED (none_by (stage_of ms) e hr.DEVICE_INVALIDATED n)
   upholds_with_endpoint (Some d) outcome n f = f d
+
+  -- an event of an endpoint
+  pub upholds_with_named : (o : Option Endpoint) (outcome : Endpoint → Outcome) → HandsNone e →
+      ((d : Endpoint) → Upholds ms st e (outcome d)) → Upholds ms st e (with_named st o outcome)
+  upholds_with_named None outcome n f = upholds_refused hr.E_NOTFOUND (none_by (stage_of ms) e hr.E_NOTFOUND n)
+  upholds_with_named (Some d) outcome n f = f d
+
+  -- what an event tells by notices isn't on the stage
+  pub upholds_noticed : (b : Bool) (o : Outcome) → Upholds ms st e o → Upholds ms st e (told st e b o)
+  upholds_noticed false o u = u
+  upholds_noticed true o u =
+      chosen (Upholds ms st e) (o.result.0 == hr.S_OK.0) _ o
+      (record { order = u.order; mixes = u.mixes; plays = u.plays; hands = u.hands }) u

@@ -7,9 +7,7 @@ use Rattle.ca_stage.specs.Moves.{Move, added, playhead_after, has_playhead, with
 use Rattle.ca_stage.specs.Moves.{playhead_at}
 use Rattle.ca_stage.proofs.Lists.{chosen_by, all_weaker, all-map, find-append, first_of_two}
 use Rattle.ca_stage.proofs.Playheads.{playhead_there, is_number}
-use Rattle.ca_machine.specs.declared.state.Endpoint.{Endpoint}
-use Rattle.ca_machine.specs.State.{is_endpoint}
-use Rattle.ca_machine.specs.Periods.{with_failed}
+use Rattle.device_registry.specs.declared.endpoint.Endpoint.{Endpoint}
 
 -- the playhead of an endpoint's number
 pub record HasHead (number : ℕ) (st : Stage) : Type 0 where
@@ -17,7 +15,7 @@ pub record HasHead (number : ℕ) (st : Stage) : Type 0 where
   pub there : playhead_at number st ≡ Some head
 
 abbrev pub HaveHeads : Stage → List Endpoint → Type 0
-HaveHeads st endpoints = AllByRecursion (λ (e : Endpoint). HasHead e.endpoint.0 st) endpoints
+HaveHeads st endpoints = AllByRecursion (λ (e : Endpoint). HasHead e.no.0 st) endpoints
 
 head_stays : (number : ℕ) (st : Stage) (xs : List Move) → HasHead number st → HasHead number (after_moves st xs)
 head_stays number st [] h = h
@@ -28,8 +26,8 @@ head_stays number st (x ∷ xs) h =
 pub heads_stay : (st : Stage) (xs : List Move) (endpoints : List Endpoint) → HaveHeads st endpoints →
     HaveHeads (after_moves st xs) endpoints
 heads_stay st xs endpoints h =
-    all_weaker (λ (e : Endpoint). HasHead e.endpoint.0 st) (λ (e : Endpoint). HasHead e.endpoint.0 (after_moves st xs))
-    (λ e k. head_stays e.endpoint.0 st xs k) endpoints h
+    all_weaker (λ (e : Endpoint). HasHead e.no.0 st) (λ (e : Endpoint). HasHead e.no.0 (after_moves st xs))
+    (λ e k. head_stays e.no.0 st xs k) endpoints h
 
 -- an endpoint that is added has one
 record Finds (number : ℕ) (heads : List Playhead) : Type 0 where
@@ -77,11 +75,3 @@ head_added number st =
     (λ h. finds number (map (playhead_after (added number)) st.playheads) h)
     (λ h. pushed_first number (map (playhead_after (added number)) st.playheads) _ refl) in
     record { head = f.head; there = f.found }
-
--- an endpoint whose device failed keeps its number
-pub heads_failed : (number : ℕ) (st : Stage) (endpoints : List Endpoint) → HaveHeads st endpoints →
-    HaveHeads st (with_failed number endpoints)
-heads_failed number st endpoints h =
-    all-map (λ (e : Endpoint). HasHead e.endpoint.0 st) (λ (e : Endpoint). HasHead e.endpoint.0 st) _
-    (λ e k. chosen_by (λ (d : Endpoint). HasHead d.endpoint.0 st) (is_endpoint number e) _ e (λ b. k) (λ b. k))
-    endpoints h

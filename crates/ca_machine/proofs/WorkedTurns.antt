@@ -13,6 +13,8 @@ use Rattle.ca_model.specs.declared.event.Call.TheVariants as call
 use Rattle.ca_model.specs.declared.event.DeviceEvent.TheVariants as device
 use Rattle.ca_stage.specs.Stage.{Stream, no_data}
 use Rattle.ca_stage.specs.Tally.{no_tally}
+use Rattle.role_defaults.specs.Defaults.{no_choices}
+use Rattle.event_notices.specs.Notices.{no_notices}
 use Rattle.ca_machine.specs.State.{State, empty_state}
 use Rattle.ca_machine.specs.Plan.{Answer, found, AreAnswers, Outcome}
 use Rattle.ca_machine.specs.Step.{Entry, IsRun, asks, step}
@@ -204,13 +206,13 @@ ready = record {
       ∷ [];
   endpoints =
       record {
-        endpoint = record { 0 = 1 };
+        no = record { 0 = 1 };
         flow = flow.Render;
         state = 1;
         format = record { channels = 2; rate = 48000; extensible = false; mask = 0 };
         name = name_of_speakers;
-        allows_exclusive = true;
-        exclusive_first = true;
+        allow = true;
+        priority = true;
       }
       ∷ [];
   sessions =
@@ -233,6 +235,9 @@ ready = record {
         optout = false;
       }
       ∷ [];
+  choices = no_choices;
+  notices = replicate 32 no_notices;
+  is_shut = false;
   last_endpoint = 1;
   clients_made = 1;
   sessions_made = 1;

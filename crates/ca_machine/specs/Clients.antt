@@ -13,11 +13,13 @@ use Rattle.ca_stage.specs.Stage.{Stream}
 use Rattle.ca_stage.specs.Moves.{Move, of_client, closed}
 use Rattle.ca_stage.specs.Present.{present}
 use Rattle.session_manager.specs.declared.session.Session.{Session}
+use Rattle.event_notices.specs.Notices.{no_notices}
 use Rattle.ca_machine.specs.declared.state.Client.{Client}
 use Rattle.ca_machine.specs.declared.state.Connection.{Connection}
 use Rattle.ca_machine.specs.State.{State, is_connection, is_connected, is_client_of, endpoint_at, live_clients}
+use Rattle.ca_machine.specs.State.{with_notices_of}
 use Rattle.ca_machine.specs.Plan.{Outcome, Plan, plain, granted, moved}
-use Rattle.ca_machine.specs.SharedRows.{control_rows, client_rows, is_inactive}
+use Rattle.ca_machine.specs.SharedRows.{connection_rows, control_rows, client_rows, is_inactive, shut_rows}
 
 -- a byte of a connection's name: an ASCII letter, a digit, a dot, an underscore or a dash
 abbrev pub is_name_byte : ℕ → Bool
@@ -31,7 +33,7 @@ is_name bytes =
     nat_lt 0 (length bytes) && (nat_le (length bytes) MAX_CONNECTION_NAME && list_all is_name_byte bytes)
 
 abbrev pub open_rows : State → ℕ → ℕ → List ℕ → List (Row Hr)
-open_rows st conn process name = (
+open_rows st conn process name = shut_rows st ++ (
   not (nat_le 1 conn && nat_le conn CONNECTIONS) || (is_connected conn st || (process == 0 || not (is_name name))),
   hr.E_INVALIDARG,
 )
@@ -73,7 +75,7 @@ leaving gone left st = record {
 }
 
 abbrev pub release_rows : State → ℕ → ℕ → List (Row Hr)
-release_rows st conn client = control_rows conn st ++ client_rows conn client st
+release_rows st conn client = connection_rows conn st ++ client_rows conn client st
 
 abbrev pub release_plan : State → ℕ → ℕ → Plan
 release_plan st conn client = plain (release_rows st conn client)
@@ -86,10 +88,10 @@ release_plan st conn client = plain (release_rows st conn client)
 abbrev pub is_client_on : ℕ → Client → Bool
 is_client_on conn c = c.conn.0 == conn
 
--- the connection isn't open any more
+-- the connection isn't open any more, and nothing is kept for it
 abbrev pub without_connection : ℕ → State → State
 without_connection conn st =
-    record st { connections = filter (λ c. not (is_connection conn c)) st.connections }
+    with_notices_of conn no_notices (record st { connections = filter (λ c. not (is_connection conn c)) st.connections })
 
 -- a hang-up
 abbrev pub hangup_plan : State → ℕ → Plan

@@ -16,7 +16,8 @@ use Rattle.ca_stage.specs.Fates.{is_rendered}
 use Rattle.ca_stage.specs.Order.{clients, RisesFrom}
 use Rattle.ca_stage.specs.Present.{present, AreGone}
 use Rattle.ca_stage.specs.Laws.{IsKept, AddsUp, IsTally, IsAhead, MixSums, HasOneSound, IsOver}
-use Rattle.ca_machine.specs.State.{State, empty_state, live_clients, endpoint_at}
+use Rattle.ca_machine.specs.State.{State, empty_state, endpoint_numbers, live_clients, endpoint_at}
+use Rattle.ca_machine.specs.Seats.{with_playheads}
 use Rattle.ca_machine.specs.Data.{frames_released}
 use Rattle.ca_machine.specs.Periods.{mixing_of}
 use Rattle.ca_machine.specs.Step.{Entry, IsRun, Steps, moves_of}
@@ -108,8 +109,10 @@ EachPlays st (entry ∷ entries) =
 
 -- What holds of the entries of a run and the state after it. Each event's reply is its table's, as a run says.
 pub record Headline (entries : List Entry) (new : State) : Type 0 where
-  -- the stage has the streams of live clients, of all that the entries' moves made of an empty one
-  pub stands : new.stage ≡ present (live_clients new.clients) (whole_stage entries)
+  -- the stage has the streams of live clients and the playheads of endpoints that are there, of all that the entries'
+  -- moves made of an empty one
+  pub stands : new.stage
+      ≡ with_playheads (endpoint_numbers new.endpoints) (present (live_clients new.clients) (whole_stage entries))
   -- and a stream that is left out is closed
   pub gone : AreGone (live_clients new.clients) (whole_stage entries)
   -- released to a client's stream are the frames of its ReleaseBuffer calls that were answered S_OK, in order

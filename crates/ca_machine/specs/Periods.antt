@@ -18,10 +18,12 @@ use Rattle.ca_stage.specs.Stage.{Stage, Stream}
 use Rattle.ca_stage.specs.Moves.{Mixing, after_moves, picks, stream_at, sub_steps}
 use Rattle.ca_stage.specs.Mix.{sound_bytes}
 use Rattle.ca_stage.specs.Fates.{next_of}
-use Rattle.ca_machine.specs.declared.state.Endpoint.{Endpoint}
-use Rattle.ca_machine.specs.State.{State, is_endpoint, endpoint_at}
+use Rattle.device_registry.specs.declared.endpoint.Endpoint.{Endpoint}
+use Rattle.device_registry.specs.Endpoints.{changed, with_state}
+use Rattle.ca_machine.specs.State.{State, endpoint_at}
 use Rattle.ca_machine.specs.Plan.{Outcome, Plan, Answer, plain, refused, moved, is_whole, pieces}
 use Rattle.ca_machine.specs.Plan.Asked.{writing}
+use Rattle.ca_machine.specs.SharedRows.{shut_rows}
 
 -- the frames of an endpoint's period
 abbrev pub period_frames : Endpoint → ℕ
@@ -55,7 +57,7 @@ gain_of st client channel =
 -- what a period of an endpoint mixes by, in this state: its frames and channels, and all gains
 abbrev pub mixing_of : State → Endpoint → Mixing
 mixing_of st e = record {
-  endpoint = e.endpoint.0;
+  endpoint = e.no.0;
   frames = period_frames e;
   channels = e.format.channels;
   gain = gain_of st;
@@ -73,8 +75,7 @@ period_payload m false = to_le_bytes w32 0 ++ 1 ∷ []
 
 -- the endpoints after a period: one whose device failed is NOTPRESENT
 abbrev pub with_failed : ℕ → List Endpoint → List Endpoint
-with_failed number endpoints =
-    map (λ e. if is_endpoint number e then record e { state = STATE_NOTPRESENT } else e) endpoints
+with_failed number endpoints = changed number (with_state STATE_NOTPRESENT) endpoints
 
 abbrev pub after_period : ℕ → Bool → State → State
 after_period number true st = st
@@ -91,12 +92,13 @@ sounding st m given = record {
 
 abbrev pub period_rows : State → Endpoint → List (Row Hr)
 period_rows st e =
-    (not (e.state == STATE_ACTIVE), hr.DEVICE_INVALIDATED)
-    ∷ (nat_lt MAX_COUNT (next_of e.endpoint.0 st.stage + period_frames e), hr.WORN)
+    shut_rows st
+    ++ (not (e.state == STATE_ACTIVE), hr.DEVICE_INVALIDATED)
+    ∷ (nat_lt MAX_COUNT (next_of e.no.0 st.stage + period_frames e), hr.WORN)
     ∷ []
 
 abbrev pub period_of : State → Option Endpoint → Plan
-period_of st None = plain ((true, hr.E_NOTFOUND) ∷ []) (refused st hr.E_NOTFOUND)
+period_of st None = plain (shut_rows st ++ (true, hr.E_NOTFOUND) ∷ []) (refused st hr.E_NOTFOUND)
 period_of st (Some e) = record {
   rows = period_rows st e;
   asks = writing (length (bytes_due (mixing_of st e) st.stage));

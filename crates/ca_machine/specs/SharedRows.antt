@@ -12,13 +12,21 @@ use Rattle.client_state.specs.Rows.{gate_rows}
 use Rattle.ca_stage.specs.Stage.{Stream, is_open}
 use Rattle.ca_stage.specs.Moves.{stream_at}
 use Rattle.ca_machine.specs.declared.state.Client.{Client}
-use Rattle.ca_machine.specs.declared.state.Endpoint.{Endpoint}
+use Rattle.device_registry.specs.declared.endpoint.Endpoint.{Endpoint}
 use Rattle.ca_machine.specs.State.{State, is_connected, client_of, endpoint_at}
 use Rattle.ca_machine.specs.Plan.{Outcome, Plan, plain, refused}
 
--- a control call: the connection isn't open
+-- the service was shut down
+abbrev pub shut_rows : State → List (Row Hr)
+shut_rows st = (st.is_shut, hr.SERVICE_NOT_RUNNING) ∷ []
+
+-- a control call that is answered after a shutdown too: the connection isn't open
+abbrev pub connection_rows : ℕ → State → List (Row Hr)
+connection_rows conn st = (not (is_connected conn st), hr.E_HANDLE) ∷ []
+
+-- a control call: the connection isn't open, or the service was shut down
 abbrev pub control_rows : ℕ → State → List (Row Hr)
-control_rows conn st = (not (is_connected conn st), hr.E_HANDLE) ∷ []
+control_rows conn st = connection_rows conn st ++ shut_rows st
 
 -- a data call: the connection isn't open
 abbrev pub data_call_rows : ℕ → State → List (Row Hr)

@@ -1,11 +1,18 @@
 -- The state of the one-thread machine (this project's own).
-use Rattle.std.specs.Prelude.{ℕ, ◌==◌, ◌&&◌, List, [], map, Bool, Option}
+use Rattle.std.specs.Prelude.{ℕ, ◌-◌, ◌==◌, ◌&&◌, List, [], map, filter, replicate, slice_get, slice_set, Bool, false}
+use Rattle.std.specs.Prelude.{Option}
 use Rattle.std.specs.List.{find, list_any}
+use Rattle.std.specs.Option.{unwrap_or}
+use Rattle.ca_base.specs.declared.limits.TheConstants.{CONNECTIONS}
+use Rattle.device_registry.specs.declared.endpoint.Endpoint.{Endpoint}
+use Rattle.device_registry.specs.Endpoints.{endpoint_at as endpoint_of_list}
+use Rattle.role_defaults.specs.declared.choices.Choices.{Choices}
+use Rattle.role_defaults.specs.Defaults.{no_choices}
+use Rattle.event_notices.specs.Notices.{Notices, no_notices}
 use Rattle.session_manager.specs.declared.session.Session.{Session}
 use Rattle.session_manager.specs.Sessions.{SessionList}
 use Rattle.ca_machine.specs.declared.state.Connection.{Connection}
 use Rattle.ca_machine.specs.declared.state.Client.{Client}
-use Rattle.ca_machine.specs.declared.state.Endpoint.{Endpoint}
 use Rattle.ca_stage.specs.Stage.{Stage, empty_stage}
 use Rattle.ca_stage.specs.Tally.{Tally, no_tally}
 
@@ -18,6 +25,12 @@ pub record State : Type 0 where
   pub clients : List Client
   pub endpoints : List Endpoint
   pub sessions : List Session
+  -- which endpoint was chosen as the default of a flow and a role
+  pub choices : Choices
+  -- by the number of a connection, from 1: what it registered for, and the notices that it keeps
+  pub notices : List Notices
+  -- the service was shut down
+  pub is_shut : Bool
   -- the greatest endpoint number ever added, and how many clients and sessions were ever made
   pub last_endpoint : ℕ
   pub clients_made : ℕ
@@ -32,6 +45,9 @@ empty_state = record {
   clients = [];
   endpoints = [];
   sessions = [];
+  choices = no_choices;
+  notices = replicate CONNECTIONS no_notices;
+  is_shut = false;
   last_endpoint = 0;
   clients_made = 0;
   sessions_made = 0;
@@ -55,11 +71,19 @@ abbrev pub client_of : ℕ → ℕ → State → Option Client
 client_of conn number st = find (is_client_of conn number) st.clients
 
 -- the endpoint of a number, if it is there
-abbrev pub is_endpoint : ℕ → Endpoint → Bool
-is_endpoint number e = e.endpoint.0 == number
-
 abbrev pub endpoint_at : ℕ → State → Option Endpoint
-endpoint_at number st = find (is_endpoint number) st.endpoints
+endpoint_at number st = endpoint_of_list number st.endpoints
+
+-- the numbers of the endpoints that are there
+abbrev pub endpoint_numbers : List Endpoint → List ℕ
+endpoint_numbers endpoints = map (λ e. e.no.0) endpoints
+
+-- what a connection registered for, and the notices that it keeps
+abbrev pub notices_of : ℕ → State → Notices
+notices_of conn st = unwrap_or (slice_get st.notices (conn - 1)) no_notices
+
+abbrev pub with_notices_of : ℕ → Notices → State → State
+with_notices_of conn q st = record st { notices = slice_set st.notices (conn - 1) q }
 
 -- the sessions, and how many were ever made
 abbrev pub session_list : State → SessionList

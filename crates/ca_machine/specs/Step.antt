@@ -1,9 +1,10 @@
 -- The step of the machine, and its runs (this project's own).
-use Rattle.std.specs.Prelude.{◌≡◌, ℕ, List, [], ◌∷◌, ◌++◌, true}
+use Rattle.std.specs.Prelude.{◌≡◌, ℕ, not, List, [], ◌∷◌, ◌++◌, Bool, true, false}
 use Rattle.std.specs.List.{flat_map}
 use Rattle.ca_base.specs.declared.codes.Hr.{Hr}
 use Rattle.ca_base.specs.declared.codes.TheConstants.Hr as hr
 use Rattle.ca_base.specs.declared.values.TheConstants.{KIND_OPEN, KIND_HANGUP, KIND_CALL, KIND_PERIOD, KIND_DEVICE}
+use Rattle.ca_base.specs.declared.values.TheConstants.{KIND_SHUTDOWN}
 use Rattle.ca_base.specs.Faults.{Rose}
 use Rattle.ca_model.specs.declared.event.Event.{Event}
 use Rattle.ca_model.specs.declared.event.Event.TheVariants as event
@@ -15,9 +16,9 @@ use Rattle.ca_model.specs.declared.reply.Reply.{Reply}
 use Rattle.session_manager.specs.declared.changes.Change.TheVariants as change
 use Rattle.ca_stage.specs.Moves.{Move}
 use Rattle.ca_machine.specs.State.{State}
-use Rattle.ca_machine.specs.Plan.{Outcome, Plan, Answer, Asked, AreAnswers, plain, refused, asked_of, outcome_of}
+use Rattle.ca_machine.specs.Plan.{Outcome, Plan, Answer, Asked, AreAnswers, plain, refused, asked_of, is_whole, outcome_of}
 use Rattle.ca_machine.specs.Plan.Answer.{failed}
-use Rattle.ca_machine.specs.SharedRows.{control_rows}
+use Rattle.ca_machine.specs.SharedRows.{control_rows, shut_rows}
 use Rattle.ca_machine.specs.Clients.{open_plan, hangup_plan, activate_plan, release_plan}
 use Rattle.ca_machine.specs.Streams.{
   initialize_plan,
@@ -40,7 +41,18 @@ use Rattle.ca_machine.specs.Sessions.{
   set_session_plan,
 }
 use Rattle.ca_machine.specs.Data.{get_current_padding_plan, get_buffer_plan, release_buffer_plan}
-use Rattle.ca_machine.specs.Devices.{add_plan}
+use Rattle.ca_machine.specs.Endpoints.{device_info_plan, enum_endpoints_plan, get_default_plan, get_device_plan}
+use Rattle.ca_machine.specs.Registrations.{register_plan, take_notices_plan, unregister_plan}
+use Rattle.ca_machine.specs.Devices.{
+  add_plan,
+  remove_plan,
+  set_default_plan,
+  set_format_plan,
+  set_name_plan,
+  set_state_plan,
+  shutdown_plan,
+}
+use Rattle.ca_machine.specs.Notices.{told}
 use Rattle.ca_machine.specs.Periods.{period_plan}
 
 -- a code that isn't listed
@@ -48,11 +60,19 @@ abbrev pub unlisted_call_plan : State → ℕ → Plan
 unlisted_call_plan st conn = plain (control_rows conn st ++ (true, hr.E_NOTIMPL) ∷ []) (refused st hr.E_NOTIMPL)
 
 abbrev pub unlisted_device_plan : State → Plan
-unlisted_device_plan st = plain ((true, hr.E_NOTIMPL) ∷ []) (refused st hr.E_NOTIMPL)
+unlisted_device_plan st = plain (shut_rows st ++ (true, hr.E_NOTIMPL) ∷ []) (refused st hr.E_NOTIMPL)
 
 abbrev pub call_plan : State → ℕ → Call → Plan
+call_plan st conn (call.EnumEndpoints flow mask) = enum_endpoints_plan st conn flow mask
+call_plan st conn (call.GetDefault flow role) = get_default_plan st conn flow role
+call_plan st conn (call.GetDevice id) = get_device_plan st conn id
+call_plan st conn (call.DeviceInfo e) = device_info_plan st conn e.0
 call_plan st conn (call.Activate e role) = activate_plan st conn e.0 role
 call_plan st conn (call.Release c) = release_plan st conn c.0
+call_plan st conn (call.Register class subject) = register_plan st conn class subject
+call_plan st conn (call.Unregister number) = unregister_plan st conn number
+call_plan st conn (call.TakeNotices max) = take_notices_plan st conn max
+call_plan st conn (call.AwaitNotices max) = take_notices_plan st conn max
 call_plan st conn (call.Initialize c share flags duration period format session) =
     initialize_plan st conn c.0 (record {
       share = share;
@@ -90,6 +110,11 @@ call_plan st conn (call.Other code rest) = unlisted_call_plan st conn
 
 abbrev pub device_plan : State → DeviceEvent → Plan
 device_plan st (device.Add e flow format name) = add_plan st e.0 flow format.list name
+device_plan st (device.SetState e state) = set_state_plan st e.0 state
+device_plan st (device.Remove e) = remove_plan st e.0
+device_plan st (device.SetFormat e format) = set_format_plan st e.0 format.list
+device_plan st (device.SetDefault flow role e) = set_default_plan st flow role e.0
+device_plan st (device.SetName e name) = set_name_plan st e.0 name
 device_plan st (device.Other code rest) = unlisted_device_plan st
 
 abbrev pub plan : State → Event → Plan
@@ -98,10 +123,35 @@ plan st (event.Hangup c) = hangup_plan st c.0
 plan st (event.Call c tag x) = call_plan st c.0 x
 plan st (event.Period e) = period_plan st e.0
 plan st (event.Device x) = device_plan st x
+plan st event.Shutdown = shutdown_plan st
 
--- what an event gets, for the environment's answers to it
+-- calls that may change what notices tell of
+abbrev pub call_tells : Call → Bool
+call_tells (call.Release c) = true
+call_tells (call.Initialize c share flags duration period format session) = true
+call_tells (call.Start c) = true
+call_tells (call.Stop c) = true
+call_tells (call.SetMaster s level context) = true
+call_tells (call.SetMute s mute context) = true
+call_tells (call.SetChannel s channel level context) = true
+call_tells (call.SetDisplayName s context text) = true
+call_tells (call.SetIconPath s context text) = true
+call_tells (call.SetGrouping s grouping context) = true
+call_tells _ = false
+
+-- events that may: of the periods those whose device failed
+abbrev pub tells : Event → List Answer → Bool
+tells (event.Open c process name) given = false
+tells (event.Hangup c) given = true
+tells (event.Call c tag x) given = call_tells x
+tells (event.Period e) given = not (is_whole given)
+tells (event.Device x) given = true
+tells event.Shutdown given = true
+
+-- what an event gets, for the environment's answers to it: what its plan says, and its notices go to the connections
+-- that registered for them
 abbrev pub step : State → Event → List Answer → Outcome
-step st e given = outcome_of st (plan st e) given
+step st e given = told st e (tells e given) (outcome_of st (plan st e) given)
 
 -- what an event asks of the environment
 abbrev pub asks : State → Event → Asked
@@ -147,6 +197,7 @@ event_kind (event.Hangup c) = KIND_HANGUP
 event_kind (event.Call c tag x) = KIND_CALL
 event_kind (event.Period e) = KIND_PERIOD
 event_kind (event.Device x) = KIND_DEVICE
+event_kind event.Shutdown = KIND_SHUTDOWN
 
 abbrev pub event_connection : Event → ℕ
 event_connection (event.Open c process name) = c.0
@@ -154,6 +205,7 @@ event_connection (event.Hangup c) = c.0
 event_connection (event.Call c tag x) = c.0
 event_connection (event.Period e) = 0
 event_connection (event.Device x) = 0
+event_connection event.Shutdown = 0
 
 abbrev pub event_tag : Event → ℕ
 event_tag (event.Call c tag x) = tag

@@ -27,7 +27,7 @@ use Rattle.session_manager.specs.declared.session.SessionKey.{SessionKey}
 use Rattle.session_manager.specs.Sessions.{joined, number_joined}
 use Rattle.session_manager.specs.Rows.{join_rows}
 use Rattle.ca_machine.specs.declared.state.Client.{Client}
-use Rattle.ca_machine.specs.declared.state.Endpoint.{Endpoint}
+use Rattle.device_registry.specs.declared.endpoint.Endpoint.{Endpoint}
 use Rattle.ca_machine.specs.State.{
   State,
   client_of,

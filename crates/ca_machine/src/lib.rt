@@ -4,4 +4,4 @@
 pub mod headline;
 mod state;
 
-pub use state::{Client, Connection, Endpoint};
+pub use state::{Client, Connection};

@@ -1,7 +1,6 @@
-//! What the service keeps of connections, clients and endpoints. The definitions and the code have the same records.
+//! What the service keeps of connections and clients. The definitions and the code have the same records.
 
-use ca_base::{ClientNo, ConnNo, EndpointNo, Flow, Text};
-use wave_format::Format;
+use ca_base::{ClientNo, ConnNo, EndpointNo, Text};
 
 /// An open connection: its process, and the name that it gave.
 #[derive(Clone, Copy)]
@@ -21,18 +20,4 @@ pub struct Client {
     pub role: u8,
     /// The level of each channel of its stream, from 0 to 65536 (IAudioStreamVolume).
     pub levels: [u32; 4],
-}
-
-/// An endpoint that is there (IMMDevice).
-#[derive(Clone, Copy)]
-pub struct Endpoint {
-    pub endpoint: EndpointNo,
-    pub flow: Flow,
-    /// DEVICE_STATE_XXX: 1, 2, 4 or 8.
-    pub state: u32,
-    pub format: Format,
-    pub name: Text,
-    /// Whether streams may use the endpoint exclusively, and whether such a stream displaces others.
-    pub allows_exclusive: bool,
-    pub exclusive_first: bool,
 }

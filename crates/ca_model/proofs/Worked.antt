@@ -20,9 +20,26 @@ opened = refl
 hung_up : frame (event.Hangup (record { 0 = 32 })) ≡ 2 ∷ 0 ∷ 0 ∷ 0 ∷ 2 ∷ 32 ∷ []
 hung_up = refl
 
+shut_down : frame event.Shutdown ≡ 1 ∷ 0 ∷ 0 ∷ 0 ∷ 7 ∷ []
+shut_down = refl
+
 -- the bytes of a call of connection 1 with tag 2, behind its code
 abbrev called : ℕ → Call → List ℕ → Type 0
 called len x rest = frame (event.Call (record { 0 = 1 }) 2 x) ≡ len ∷ 0 ∷ 0 ∷ 0 ∷ 3 ∷ 1 ∷ 2 ∷ 0 ∷ 0 ∷ 0 ∷ rest
+
+-- all flows, in all four states
+asked_of_endpoints : called 12 (call.EnumEndpoints 2 15) (1 ∷ 2 ∷ 15 ∷ 0 ∷ 0 ∷ 0 ∷ [])
+asked_of_endpoints = refl
+
+asked_of_default : called 9 (call.GetDefault 1 2) (2 ∷ 1 ∷ 2 ∷ [])
+asked_of_default = refl
+
+-- an identifier of two bytes
+asked_of_device : called 11 (call.GetDevice (112 ∷ 108 ∷ [])) (3 ∷ 2 ∷ 0 ∷ 112 ∷ 108 ∷ [])
+asked_of_device = refl
+
+asked_of_info : called 11 (call.DeviceInfo (record { 0 = 3 })) (4 ∷ 3 ∷ 0 ∷ 0 ∷ 0 ∷ [])
+asked_of_info = refl
 
 -- the client's number, 258
 abbrev client : List ℕ
@@ -33,6 +50,19 @@ activated = refl
 
 released_client : called 15 (call.Release (record { 0 = 258 })) (6 ∷ client)
 released_client = refl
+
+-- notices of session 1027
+registered : called 16 (call.Register 3 1027) (7 ∷ 3 ∷ 3 ∷ 4 ∷ replicate 6 0)
+registered = refl
+
+unregistered : called 15 (call.Unregister 258) (8 ∷ 2 ∷ 1 ∷ replicate 6 0)
+unregistered = refl
+
+took_notices : called 11 (call.TakeNotices 1000) (9 ∷ 232 ∷ 3 ∷ 0 ∷ 0 ∷ [])
+took_notices = refl
+
+awaited_notices : called 11 (call.AwaitNotices 1000) (10 ∷ 232 ∷ 3 ∷ 0 ∷ 0 ∷ [])
+awaited_notices = refl
 
 -- a GUID is in the order of RFC 9562
 initialized :
@@ -145,10 +175,42 @@ added : frame (event.Device (device.Add (record { 0 = 1 }) 0 (record { list = 6 
     ≡ 13 ∷ 0 ∷ 0 ∷ 0 ∷ 5 ∷ 1 ∷ 1 ∷ 0 ∷ 0 ∷ 0 ∷ 0 ∷ 1 ∷ 0 ∷ 6 ∷ 1 ∷ 0 ∷ 83 ∷ []
 added = refl
 
+-- unplugged
+set_state : frame (event.Device (device.SetState (record { 0 = 3 }) 8))
+    ≡ 10 ∷ 0 ∷ 0 ∷ 0 ∷ 5 ∷ 2 ∷ 3 ∷ 0 ∷ 0 ∷ 0 ∷ 8 ∷ 0 ∷ 0 ∷ 0 ∷ []
+set_state = refl
+
+removed : frame (event.Device (device.Remove (record { 0 = 3 }))) ≡ 6 ∷ 0 ∷ 0 ∷ 0 ∷ 5 ∷ 3 ∷ 3 ∷ 0 ∷ 0 ∷ 0 ∷ []
+removed = refl
+
+set_format : frame (event.Device (device.SetFormat (record { 0 = 3 }) (record { list = 6 ∷ []; capacity = 1 })))
+    ≡ 9 ∷ 0 ∷ 0 ∷ 0 ∷ 5 ∷ 4 ∷ 3 ∷ 0 ∷ 0 ∷ 0 ∷ 1 ∷ 0 ∷ 6 ∷ []
+set_format = refl
+
+-- the endpoint is behind the flow and the role
+set_default : frame (event.Device (device.SetDefault 0 2 (record { 0 = 3 })))
+    ≡ 8 ∷ 0 ∷ 0 ∷ 0 ∷ 5 ∷ 5 ∷ 0 ∷ 2 ∷ 3 ∷ 0 ∷ 0 ∷ 0 ∷ []
+set_default = refl
+
+set_name : frame (event.Device (device.SetName (record { 0 = 3 }) (83 ∷ [])))
+    ≡ 9 ∷ 0 ∷ 0 ∷ 0 ∷ 5 ∷ 8 ∷ 3 ∷ 0 ∷ 0 ∷ 0 ∷ 1 ∷ 0 ∷ 83 ∷ []
+set_name = refl
+
+-- a code that isn't listed
+other_device : frame (event.Device (device.Other 7 (record { list = 1 ∷ []; capacity = 2 })))
+    ≡ 3 ∷ 0 ∷ 0 ∷ 0 ∷ 5 ∷ 7 ∷ 1 ∷ []
+other_device = refl
+
 -- a reply: its payload is two bytes
 replied :
     reply_frame
-    (record { kind = 3; conn = 1; tag = 258; result = hr.S_FALSE; payload = record { list = 7 ∷ 8 ∷ []; capacity = 8 } })
+    (record {
+      kind = 3;
+      conn = 1;
+      tag = 258;
+      result = hr.S_FALSE;
+      payload = record { list = 7 ∷ 8 ∷ []; capacity = 8 };
+    })
     ≡ 12 ∷ 0 ∷ 0 ∷ 0 ∷ 3 ∷ 1 ∷ 2 ∷ 1 ∷ 0 ∷ 0 ∷ 1 ∷ 0 ∷ 0 ∷ 0 ∷ 7 ∷ 8 ∷ []
 replied = refl
 

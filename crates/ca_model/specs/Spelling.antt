@@ -21,6 +21,7 @@ use Rattle.std.specs.List.{flat_map, AllByRecursion}
 use Rattle.std.specs.Int.{w32, to_le_bytes, from_le_bytes}
 use Rattle.ca_base.specs.declared.limits.TheConstants.{LONGEST_BODY}
 use Rattle.ca_base.specs.declared.values.TheConstants.{KIND_OPEN, KIND_HANGUP, KIND_CALL, KIND_PERIOD, KIND_DEVICE}
+use Rattle.ca_base.specs.declared.values.TheConstants.{KIND_SHUTDOWN}
 use Rattle.ca_model.specs.declared.event.Event.{Event}
 use Rattle.ca_model.specs.declared.event.Event.TheVariants as event
 use Rattle.ca_model.specs.declared.event.Call.{Call}
@@ -34,8 +35,16 @@ use Rattle.ca_model.specs.Fields.Field.{number, bytes}
 -- the calls that are listed, by code, and the kinds of their fields
 abbrev pub calls : List (ℕ × List Kind)
 calls =
-    (5, four_bytes ∷ byte ∷ [])
+    (1, byte ∷ four_bytes ∷ [])
+    ∷ (2, byte ∷ byte ∷ [])
+    ∷ (3, text ∷ [])
+    ∷ (4, four_bytes ∷ [])
+    ∷ (5, four_bytes ∷ byte ∷ [])
     ∷ (6, eight_bytes ∷ [])
+    ∷ (7, byte ∷ eight_bytes ∷ [])
+    ∷ (8, eight_bytes ∷ [])
+    ∷ (9, four_bytes ∷ [])
+    ∷ (10, four_bytes ∷ [])
     ∷ (16, eight_bytes ∷ four_bytes ∷ four_bytes ∷ eight_bytes ∷ eight_bytes ∷ format ∷ guid ∷ [])
     ∷ (17, eight_bytes ∷ [])
     ∷ (18, eight_bytes ∷ [])
@@ -64,7 +73,14 @@ calls =
 
 -- the device events that are listed
 abbrev pub device_events : List (ℕ × List Kind)
-device_events = (1, four_bytes ∷ byte ∷ format ∷ text ∷ []) ∷ []
+device_events =
+    (1, four_bytes ∷ byte ∷ format ∷ text ∷ [])
+    ∷ (2, four_bytes ∷ four_bytes ∷ [])
+    ∷ (3, four_bytes ∷ [])
+    ∷ (4, four_bytes ∷ format ∷ [])
+    ∷ (5, byte ∷ byte ∷ four_bytes ∷ [])
+    ∷ (8, four_bytes ∷ text ∷ [])
+    ∷ []
 
 -- what a table has for a code
 abbrev pub listed : ℕ → List (ℕ × List Kind) → Option (List Kind)
@@ -77,8 +93,16 @@ or_rest (Some kinds) = kinds
 or_rest None = rest ∷ []
 
 abbrev pub call_code : Call → ℕ
+call_code (call.EnumEndpoints flow mask) = 1
+call_code (call.GetDefault flow role) = 2
+call_code (call.GetDevice id) = 3
+call_code (call.DeviceInfo e) = 4
 call_code (call.Activate e role) = 5
 call_code (call.Release c) = 6
+call_code (call.Register class subject) = 7
+call_code (call.Unregister registration) = 8
+call_code (call.TakeNotices most) = 9
+call_code (call.AwaitNotices most) = 10
 call_code (call.Initialize c share flags duration period f session) = 16
 call_code (call.GetBufferSize c) = 17
 call_code (call.GetStreamLatency c) = 18
@@ -106,8 +130,16 @@ call_code (call.SetGrouping s grouping context) = 55
 call_code (call.Other code tail) = code
 
 abbrev pub call_fields : Call → List Field
+call_fields (call.EnumEndpoints flow mask) = number flow ∷ number mask ∷ []
+call_fields (call.GetDefault flow role) = number flow ∷ number role ∷ []
+call_fields (call.GetDevice id) = bytes id ∷ []
+call_fields (call.DeviceInfo e) = number e.0 ∷ []
 call_fields (call.Activate e role) = number e.0 ∷ number role ∷ []
 call_fields (call.Release c) = number c.0 ∷ []
+call_fields (call.Register class subject) = number class ∷ number subject ∷ []
+call_fields (call.Unregister registration) = number registration ∷ []
+call_fields (call.TakeNotices most) = number most ∷ []
+call_fields (call.AwaitNotices most) = number most ∷ []
 call_fields (call.Initialize c share flags duration period f session) =
     number c.0 ∷ number share ∷ number flags ∷ number duration ∷ number period ∷ bytes f.list ∷ number session.0 ∷ []
 call_fields (call.GetBufferSize c) = number c.0 ∷ []
@@ -138,10 +170,20 @@ call_fields (call.Other code tail) = bytes tail.list ∷ []
 
 abbrev pub device_code : DeviceEvent → ℕ
 device_code (device.Add e flow f name) = 1
+device_code (device.SetState e state) = 2
+device_code (device.Remove e) = 3
+device_code (device.SetFormat e f) = 4
+device_code (device.SetDefault flow role e) = 5
+device_code (device.SetName e name) = 8
 device_code (device.Other code tail) = code
 
 abbrev pub device_fields : DeviceEvent → List Field
 device_fields (device.Add e flow f name) = number e.0 ∷ number flow ∷ bytes f.list ∷ bytes name ∷ []
+device_fields (device.SetState e state) = number e.0 ∷ number state ∷ []
+device_fields (device.Remove e) = number e.0 ∷ []
+device_fields (device.SetFormat e f) = number e.0 ∷ bytes f.list ∷ []
+device_fields (device.SetDefault flow role e) = number flow ∷ number role ∷ number e.0 ∷ []
+device_fields (device.SetName e name) = number e.0 ∷ bytes name ∷ []
 device_fields (device.Other code tail) = bytes tail.list ∷ []
 
 -- the kinds of an event's fields: first the byte that says what it is
@@ -151,6 +193,7 @@ kinds (event.Hangup c) = byte ∷ connection ∷ []
 kinds (event.Call c tag x) = byte ∷ connection ∷ four_bytes ∷ byte ∷ or_rest (listed (call_code x) calls)
 kinds (event.Period e) = byte ∷ four_bytes ∷ []
 kinds (event.Device x) = byte ∷ byte ∷ or_rest (listed (device_code x) device_events)
+kinds event.Shutdown = byte ∷ []
 
 abbrev pub fields : Event → List Field
 fields (event.Open c pid name) = number KIND_OPEN ∷ number c.0 ∷ number pid ∷ bytes name ∷ []
@@ -158,6 +201,7 @@ fields (event.Hangup c) = number KIND_HANGUP ∷ number c.0 ∷ []
 fields (event.Call c tag x) = number KIND_CALL ∷ number c.0 ∷ number tag ∷ number (call_code x) ∷ call_fields x
 fields (event.Period e) = number KIND_PERIOD ∷ number e.0 ∷ []
 fields (event.Device x) = number KIND_DEVICE ∷ number (device_code x) ∷ device_fields x
+fields event.Shutdown = number KIND_SHUTDOWN ∷ []
 
 -- a listed code is never spelled as another
 abbrev pub CodeIsOwn : Event → Type 0

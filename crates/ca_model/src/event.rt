@@ -15,11 +15,31 @@ pub enum Event {
     Period { endpoint: EndpointNo },
     /// A device event.
     Device { event: DeviceEvent },
+    /// The service shuts down: all streams are closed, and later calls are refused but for a few (own).
+    Shutdown,
 }
 
 /// A call, by its code.
 #[derive(Drop)]
 pub enum Call {
+    /// 1: IMMDeviceEnumerator::EnumAudioEndpoints. The flow is 0, 1 or 2 (EDataFlow), the mask DEVICE_STATE bits.
+    EnumEndpoints {
+        flow: u8,
+        mask: u32,
+    },
+    /// 2: IMMDeviceEnumerator::GetDefaultAudioEndpoint. The flow is 0 or 1 (EDataFlow), the role 0, 1 or 2 (ERole).
+    GetDefault {
+        flow: u8,
+        role: u8,
+    },
+    /// 3: IMMDeviceEnumerator::GetDevice, by an endpoint's identifier.
+    GetDevice {
+        id: Text,
+    },
+    /// 4: IMMDevice, an endpoint's data.
+    DeviceInfo {
+        endpoint: EndpointNo,
+    },
     /// 5: IMMDevice::Activate. The role is 0, 1 or 2 (ERole), or 255 for none.
     Activate {
         endpoint: EndpointNo,
@@ -28,6 +48,24 @@ pub enum Call {
     /// 6: the client is released (IUnknown::Release of an IAudioClient).
     Release {
         client: ClientNo,
+    },
+    /// 7: notices of a class from 1 to 6 are wanted (own, for the callbacks that the reference registers). The subject
+    /// is an endpoint's or a session's number, or 0 for all.
+    Register {
+        class: u8,
+        subject: u64,
+    },
+    /// 8: notices of a registration are no longer wanted (own).
+    Unregister {
+        registration: u64,
+    },
+    /// 9: the oldest notices, at most so many (own).
+    TakeNotices {
+        max: u32,
+    },
+    /// 10: the same, and the answer waits until there is one (own).
+    AwaitNotices {
+        max: u32,
     },
     /// 16: IAudioClient::Initialize. Times are in units of 100 ns, the format is WAVEFORMATEX bytes.
     Initialize {
@@ -169,6 +207,31 @@ pub enum DeviceEvent {
         endpoint: EndpointNo,
         flow: u8,
         format: Bytes,
+        name: Text,
+    },
+    /// 2: an endpoint's state (IMMDevice::GetState): 1 active, 2 disabled, 4 not present or 8 unplugged.
+    SetState {
+        endpoint: EndpointNo,
+        state: u32,
+    },
+    /// 3: an endpoint is gone for good (IMMNotificationClient::OnDeviceRemoved).
+    Remove {
+        endpoint: EndpointNo,
+    },
+    /// 4: an endpoint's format (PKEY_AudioEngine_DeviceFormat), WAVEFORMATEX bytes.
+    SetFormat {
+        endpoint: EndpointNo,
+        format: Bytes,
+    },
+    /// 5: the default endpoint of a flow, 0 or 1 (EDataFlow), in a role, 0, 1 or 2 (ERole).
+    SetDefault {
+        flow: u8,
+        role: u8,
+        endpoint: EndpointNo,
+    },
+    /// 8: an endpoint's name (PKEY_Device_FriendlyName).
+    SetName {
+        endpoint: EndpointNo,
         name: Text,
     },
     /// A code that isn't listed.

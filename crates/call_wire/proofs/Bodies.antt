@@ -2,6 +2,7 @@
 use Rattle.std.proofs.Common.{◌≡◌, ℕ, Bool, true, false, cond, eqb, List, [], ◌∷◌, Option, Some, None, get_or, refl}
 use Rattle.std.proofs.Common.{sym, ap, subst, ◌∙◌}
 use Rattle.ca_base.specs.declared.values.TheConstants.{KIND_OPEN, KIND_HANGUP, KIND_CALL, KIND_PERIOD, KIND_DEVICE}
+use Rattle.ca_base.specs.declared.values.TheConstants.{KIND_SHUTDOWN}
 use Rattle.ca_model.specs.declared.event.Event.{Event}
 use Rattle.ca_model.specs.declared.event.Event.TheVariants as event
 use Rattle.ca_model.specs.Fields.{Kind, Field, AllFit, fields_bytes}
@@ -64,6 +65,9 @@ body_takes (event.Device x) bs fits h =
     let kinds_of : ℕ → List Kind = λ n. byte ∷ byte ∷ device_kinds n in
     let read = read_by e KIND_DEVICE _ bs fits refl _ refl h in
     coded_take e bs (code_place KIND_DEVICE) (device_code x) kinds_of fits (λ n. refl) read
+body_takes event.Shutdown bs fits h =
+    let e = event.Shutdown in
+    fields_take (kinds e) bs (fields e) fits (read_by e KIND_SHUTDOWN _ bs fits refl _ refl h)
 
 -- ---- the body of an event is read
 
@@ -94,6 +98,7 @@ kinds_last (event.Hangup c) = refl
 kinds_last (event.Call c tag x) = last_in_table (call_code x) calls refl
 kinds_last (event.Period e) = refl
 kinds_last (event.Device x) = last_in_table (device_code x) device_events refl
+kinds_last event.Shutdown = refl
 
 kinds_told : (e : Event) → body_kinds (body e) >>= (λ ks. Some (byte ∷ ks)) ≡ Some (kinds e)
 kinds_told (event.Open c pid name) = refl
@@ -101,6 +106,7 @@ kinds_told (event.Hangup c) = refl
 kinds_told (event.Call c tag x) = refl
 kinds_told (event.Period e) = refl
 kinds_told (event.Device x) = refl
+kinds_told event.Shutdown = refl
 
 -- the fields that are read, where the kinds are known but for the first
 read_as : (told : Option (List Kind)) (ks : List Kind) (bs : List ℕ) → told >>= (λ ks. Some (byte ∷ ks)) ≡ Some ks

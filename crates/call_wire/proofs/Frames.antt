@@ -20,6 +20,7 @@ body_some (event.Hangup c) = omega arith
 body_some (event.Call c tag x) = omega arith
 body_some (event.Period e) = omega arith
 body_some (event.Device x) = omega arith
+body_some event.Shutdown = omega arith
 
 pub frame_length : (e : Event) → length (frame e) ≡ LENGTH_SIZE + length (body e)
 frame_length e = length-append (to_le_bytes w32 (length (body e))) (body e)

@@ -56,6 +56,11 @@ abbrev pub IsDeviceOf : ℕ → List ℕ → DeviceEvent → Type 0
 IsDeviceOf code bs x =
     (device_code x ≡ code) × DeviceIsOwn x × (read_fields (device_kinds code) bs ≡ Some (device_fields x))
 
+-- a reader that takes no memory gives the device event of this code, or the bytes spell none
+abbrev pub GivesDevice : ℕ → Result DeviceEvent NoField → List ℕ → Type 0
+GivesDevice code (Ok x) bs = IsDeviceOf code bs x
+GivesDevice code (Err f) bs = read_fields (device_kinds code) bs ≡ None
+
 -- a reader gives the device event of this code, or fails
 abbrev pub MayGiveDevice : ℕ → Result DeviceEvent Fault → List ℕ → Type 0
 MayGiveDevice code (Ok x) bs = IsDeviceOf code bs x

@@ -9,6 +9,7 @@ use Rattle.std.specs.Option.{option_map_or}
 use Rattle.ca_base.specs.declared.limits.TheConstants.{CONNECTIONS, MAX_TEXT}
 use Rattle.call_wire.specs.declared.fields.TheConstants.{MAX_FORMAT}
 use Rattle.ca_base.specs.declared.values.TheConstants.{KIND_OPEN, KIND_HANGUP, KIND_CALL, KIND_PERIOD, KIND_DEVICE}
+use Rattle.ca_base.specs.declared.values.TheConstants.{KIND_SHUTDOWN}
 use Rattle.ca_model.specs.Fields.{Kind, Field}
 use Rattle.ca_model.specs.Fields.Kind.{connection, byte, four_bytes, eight_bytes, guid, text, format, rest}
 use Rattle.ca_model.specs.Fields.Field.{number, bytes}
@@ -94,6 +95,7 @@ event_kinds kind code =
     else if kind == KIND_CALL then Some (connection ∷ four_bytes ∷ byte ∷ call_kinds code)
     else if kind == KIND_PERIOD then Some (four_bytes ∷ [])
     else if kind == KIND_DEVICE then Some (byte ∷ device_kinds code)
+    else if kind == KIND_SHUTDOWN then Some []
     else None
 
 -- where a code is in a body: a call's behind the kind, the connection and the tag, a device event's behind the kind

@@ -1,16 +1,16 @@
 //! Calls, read behind their codes.
 
 ghost use Rattle.std.specs.Prelude.{◌≡◌, [], ◌∷◌, Some, None};
-ghost use Rattle.ca_model.specs.Fields.Kind.{eight_bytes};
+ghost use Rattle.ca_model.specs.Fields.Kind.{four_bytes, eight_bytes};
 ghost use Rattle.ca_model.specs.Fields.Field.{number as number_field};
 ghost use Rattle.ca_model.specs.Spelling.{call_code, call_fields, calls, listed};
 ghost use Rattle.call_wire.specs.Readers.{CallIsOwn, GivesCall, MayGiveCall};
 
+use crate::endpoints::{read_enum_endpoints, read_get_default, read_get_device};
 use crate::fault::{Fault, NoField};
 use crate::fields::{expect_end, take_format, take_guid, take_u8, take_u32, take_u64};
 use crate::sessions::{
-    read_enum_sessions, read_set_channel, read_set_grouping, read_set_master, read_set_mute,
-    read_text_call,
+    read_set_channel, read_set_grouping, read_set_master, read_set_mute, read_text_call,
 };
 use ca_base::{Bytes, ClientNo, EndpointNo, SessionNo};
 use ca_model::Call;
@@ -21,16 +21,20 @@ pub fn read_call(alloc: Global, code: u8, input: &[u8]) -> Result<Call, Fault>
     ensures { MayGiveCall code result input.now }
 {
     match code {
+        1 => Ok(read_enum_endpoints(input)?),
+        2 => Ok(read_get_default(input)?),
+        3 => Ok(read_get_device(input)?),
+        4 | 9 | 10 | 48 => Ok(read_u32_call(code, input)?),
         5 => Ok(read_activate(input)?),
+        7 => Ok(read_register(input)?),
         16 => read_initialize(alloc, input),
         20 => read_is_format_supported(alloc, input),
         27 => Ok(read_get_service(input)?),
-        6 | 17 | 18 | 19 | 21 | 22 | 23 | 24 | 25 | 28 | 49 => Ok(read_number_call(code, input)?),
+        6 | 8 | 17..=19 | 21..=25 | 28 | 49 => Ok(read_number_call(code, input)?),
         29 => Ok(read_get_stream_level(input)?),
         30 => Ok(read_set_stream_level(input)?),
         32 => Ok(read_get_buffer(input)?),
         33 => read_release_buffer(alloc, input),
-        48 => Ok(read_enum_sessions(input)?),
         50 => Ok(read_set_master(input)?),
         51 => Ok(read_set_mute(input)?),
         52 => Ok(read_set_channel(input)?),
@@ -48,6 +52,15 @@ fn read_activate(input: &[u8]) -> Result<Call, NoField>
     expect_end(rest)?;
     let endpoint = EndpointNo(endpoint);
     Ok(Call::Activate { endpoint, role })
+}
+
+fn read_register(input: &[u8]) -> Result<Call, NoField>
+    ensures { GivesCall 7 result input.now }
+{
+    let (class, rest) = take_u8(input)?;
+    let (subject, rest) = take_u64(rest)?;
+    expect_end(rest)?;
+    Ok(Call::Register { class, subject })
 }
 
 fn read_initialize(alloc: Global, input: &[u8]) -> Result<Call, Fault>
@@ -72,7 +85,34 @@ fn read_initialize(alloc: Global, input: &[u8]) -> Result<Call, Fault>
     })
 }
 
-/// A call that has one number alone, a client's or a session's, by its code.
+/// A call that has one number of four bytes alone, an endpoint's or how many notices, by its code.
+fn read_u32_call(code: u8, input: &[u8]) -> Result<Call, NoField>
+    requires { listed code calls ≡ Some (four_bytes ∷ []) }
+    ensures { GivesCall code result input.now }
+{
+    let (number, rest) = take_u32(input)?;
+    expect_end(rest)?;
+    Ok(u32_call(code, number))
+}
+
+/// The call of this code and this number of four bytes, which has nothing else.
+fn u32_call(code: u8, number: u32) -> Call
+    requires { listed code calls ≡ Some (four_bytes ∷ []) }
+    ensures code { call_code result ≡ code }
+    ensures own { CallIsOwn result }
+    ensures fields { call_fields result ≡ number_field number ∷ [] }
+{
+    let endpoint = EndpointNo(number);
+    match code {
+        4 => Call::DeviceInfo { endpoint },
+        9 => Call::TakeNotices { max: number },
+        10 => Call::AwaitNotices { max: number },
+        // 48, the only one that is left
+        _ => Call::EnumSessions { endpoint },
+    }
+}
+
+/// A call that has one number of eight bytes alone, a client's, a session's or a registration's, by its code.
 fn read_number_call(code: u8, input: &[u8]) -> Result<Call, NoField>
     requires { listed code calls ≡ Some (eight_bytes ∷ []) }
     ensures { GivesCall code result input.now }
@@ -82,7 +122,7 @@ fn read_number_call(code: u8, input: &[u8]) -> Result<Call, NoField>
     Ok(number_call(code, number))
 }
 
-/// The call of this code and this number, which has nothing else.
+/// The call of this code and this number of eight bytes, which has nothing else.
 fn number_call(code: u8, number: u64) -> Call
     requires { listed code calls ≡ Some (eight_bytes ∷ []) }
     ensures code { call_code result ≡ code }
@@ -92,6 +132,9 @@ fn number_call(code: u8, number: u64) -> Call
     let client = ClientNo(number);
     match code {
         6 => Call::Release { client },
+        8 => Call::Unregister {
+            registration: number,
+        },
         17 => Call::GetBufferSize { client },
         18 => Call::GetStreamLatency { client },
         19 => Call::GetCurrentPadding { client },

@@ -7,7 +7,7 @@ use crate::calls::read_call;
 use crate::devices::read_device;
 use crate::fault::{Fault, NoField};
 use crate::fields::{expect_end, take_connection, take_text, take_u8, take_u32};
-use ca_base::values::{KIND_CALL, KIND_DEVICE, KIND_HANGUP, KIND_OPEN, KIND_PERIOD};
+use ca_base::values::{KIND_CALL, KIND_DEVICE, KIND_HANGUP, KIND_OPEN, KIND_PERIOD, KIND_SHUTDOWN};
 use ca_base::{EndpointNo, Text};
 use ca_model::Event;
 use std::alloc::Global;
@@ -22,6 +22,7 @@ pub fn read_event(alloc: Global, body: &[u8]) -> Result<Event, Fault>
         [KIND_CALL, rest @ ..] => read_call_event(alloc, rest),
         [KIND_PERIOD, rest @ ..] => Ok(read_period_event(rest)?),
         [KIND_DEVICE, rest @ ..] => read_device_event(alloc, rest),
+        [KIND_SHUTDOWN, rest @ ..] => Ok(read_shutdown_event(rest)?),
         _ => Err(Fault::Malformed),
     }
 }
@@ -75,4 +76,12 @@ fn read_device_event(alloc: Global, input: &[u8]) -> Result<Event, Fault>
     let (code, rest) = take_u8(input)?;
     let event = read_device(alloc, code, rest)?;
     Ok(Event::Device { event })
+}
+
+#[tactic(auto, unfolding(crate::specs::Reading::byte_at))]
+fn read_shutdown_event(input: &[u8]) -> Result<Event, NoField>
+    ensures { GivesEvent result (KIND_SHUTDOWN ∷ input.now) }
+{
+    expect_end(input)?;
+    Ok(Event::Shutdown)
 }

@@ -8,17 +8,8 @@ ghost use Rattle.call_wire.specs.Readers.{CallIsOwn, GivesCall};
 
 use crate::fault::NoField;
 use crate::fields::{expect_end, take_guid, take_text, take_u8, take_u32, take_u64};
-use ca_base::{EndpointNo, Guid, SessionNo, Text};
+use ca_base::{Guid, SessionNo, Text};
 use ca_model::Call;
-
-pub fn read_enum_sessions(input: &[u8]) -> Result<Call, NoField>
-    ensures { GivesCall 48 result input.now }
-{
-    let (endpoint, rest) = take_u32(input)?;
-    expect_end(rest)?;
-    let endpoint = EndpointNo(endpoint);
-    Ok(Call::EnumSessions { endpoint })
-}
 
 pub fn read_set_master(input: &[u8]) -> Result<Call, NoField>
     ensures { GivesCall 50 result input.now }

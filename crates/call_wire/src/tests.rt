@@ -1,5 +1,6 @@
 use super::*;
-use ca_base::{Bytes, Hr};
+use ca_base::{Bytes, Guid, Hr, Text};
+use event_notices::Notice;
 use std::test::*;
 
 /// A Period of endpoint 1.
@@ -18,9 +19,17 @@ const INITIALIZE: [u8; 79] = [
 ];
 
 /// Calls that take no memory: their codes, and the lengths of their bodies if a text is empty.
-const CALLS: [(u8, u8); 23] = [
+const CALLS: [(u8, u8); 31] = [
+    (1, 12),
+    (2, 9),
+    (3, 9),
+    (4, 11),
     (5, 12),
     (6, 15),
+    (7, 16),
+    (8, 15),
+    (9, 11),
+    (10, 11),
     (17, 15),
     (18, 15),
     (19, 15),
@@ -43,6 +52,9 @@ const CALLS: [(u8, u8); 23] = [
     (54, 33),
     (55, 47),
 ];
+
+/// Device events: their codes, and the lengths of their bodies if formats and texts are empty.
+const DEVICE_EVENTS: [(u8, u8); 6] = [(1, 11), (2, 10), (3, 6), (4, 8), (5, 8), (8, 8)];
 
 fn frame_of(rt: HostRuntime, body: &[u8]) -> Result<Vec<u8>, Fail> {
     let length = u32::try_from(body.len())
@@ -133,29 +145,58 @@ fn a_hang_up_is_read(rt: HostRuntime) -> Result<(), Fail> {
     Ok(())
 }
 
+/// Whether a head, with zeros behind it to this length, is the body of an event whose code is listed, and is malformed
+/// with a byte more or a byte less.
+fn has_length(rt: HostRuntime, head: &[u8], length: u8) -> Result<bool, Fail> {
+    let mut body = Vec::new(rt.alloc());
+    body.extend_from_slice(head)?;
+    for _ in head.len()..usize::from(length) {
+        body.push(0)?;
+    }
+    let frame = frame_of(rt, &body)?;
+    let step = next_event(rt.alloc(), &frame).ok().ok_or("memory")?;
+    let listed = match step {
+        Step::Event { event, .. } => match event {
+            Event::Call { call, .. } => !matches!(call, Call::Other { .. }),
+            Event::Device { event } => !matches!(event, DeviceEvent::Other { .. }),
+            _ => true,
+        },
+        _ => false,
+    };
+    body.push(0)?;
+    let longer = body_is_malformed(rt, &body)?;
+    body.pop();
+    body.pop();
+    Ok(listed && longer && body_is_malformed(rt, &body)?)
+}
+
 #[test]
 fn calls_that_take_no_memory_are_read(rt: HostRuntime) -> Result<(), Fail> {
     for (code, length) in CALLS {
-        let mut body = vec![in rt.alloc(); 3, 1, 2, 0, 0, 0, code]?;
-        for _ in 7..length {
-            body.push(0)?;
-        }
-        let frame = frame_of(rt, &body)?;
-        let step = next_event(rt.alloc(), &frame).ok().ok_or("memory")?;
-        let Step::Event { event, .. } = step else {
-            return Err("the bytes are an event".into());
-        };
-        let listed = !matches!(
-            event,
-            Event::Call {
-                call: Call::Other { .. },
-                ..
-            }
-        );
-        assert!(rt; listed, "code {code}");
-        body.pop();
-        assert!(rt; body_is_malformed(rt, &body)?, "code {code}");
+        let head = [3, 1, 2, 0, 0, 0, code];
+        assert!(rt; has_length(rt, &head, length)?, "code {code}");
     }
+    Ok(())
+}
+
+#[test]
+fn device_events_are_read(rt: HostRuntime) -> Result<(), Fail> {
+    for (code, length) in DEVICE_EVENTS {
+        assert!(rt; has_length(rt, &[5, code], length)?, "code {code}");
+    }
+    Ok(())
+}
+
+#[test]
+fn a_shutdown_is_read(rt: HostRuntime) -> Result<(), Fail> {
+    let bytes = [1, 0, 0, 0, 7, 255];
+    let step = next_event(rt.alloc(), &bytes).ok().ok_or("memory")?;
+    let Step::Event { event, used } = step else {
+        return Err("the bytes are an event".into());
+    };
+    assert_eq!(rt; used, 5);
+    assert!(rt; matches!(event, Event::Shutdown));
+    assert!(rt; body_is_malformed(rt, &[7, 0])?, "a byte too long");
     Ok(())
 }
 
@@ -179,7 +220,7 @@ fn an_invalid_length_is_malformed(rt: HostRuntime) {
 
 #[test]
 fn bodies_of_no_event_are_malformed(rt: HostRuntime) -> Result<(), Fail> {
-    let unknown = [0, 6, 7, 8, 255];
+    let unknown = [0, 6, 8, 255];
     for kind in unknown {
         assert!(rt; body_is_malformed(rt, &[kind])?, "kind {kind}");
         assert!(rt; body_is_malformed(rt, &[kind, 1])?, "kind {kind} of one");
@@ -201,17 +242,28 @@ fn bodies_of_no_event_are_malformed(rt: HostRuntime) -> Result<(), Fail> {
     Ok(())
 }
 
+/// Whether a head with a text of so many bytes behind it is malformed.
+fn text_is_malformed(rt: HostRuntime, head: &[u8], length: u16) -> Result<bool, Fail> {
+    let mut body = Vec::new(rt.alloc());
+    body.extend_from_slice(head)?;
+    body.extend_from_slice(&length.to_le_bytes())?;
+    for _ in 0..length {
+        body.push(97)?;
+    }
+    body_is_malformed(rt, &body)
+}
+
 #[test]
 fn a_text_has_at_most_256_bytes(rt: HostRuntime) -> Result<(), Fail> {
-    let mut longest = vec![in rt.alloc(); 1, 1, 9, 0, 0, 0, 0, 1]?;
-    let mut longer = vec![in rt.alloc(); 1, 1, 9, 0, 0, 0, 1, 1]?;
-    for _ in 0..256 {
-        longest.push(97)?;
-        longer.push(97)?;
+    let heads = [
+        [1, 1, 9, 0, 0, 0].as_slice(), // Open
+        &[3, 1, 2, 0, 0, 0, 3], // GetDevice
+        &[5, 8, 1, 0, 0, 0], // SetName
+    ];
+    for head in heads {
+        assert!(rt; !text_is_malformed(rt, head, 256)?, "kind {}", head[0]);
+        assert!(rt; text_is_malformed(rt, head, 257)?, "kind {}", head[0]);
     }
-    longer.push(97)?;
-    assert!(rt; !body_is_malformed(rt, &longest)?);
-    assert!(rt; body_is_malformed(rt, &longer)?);
     Ok(())
 }
 
@@ -230,5 +282,25 @@ fn a_reply_is_written(rt: HostRuntime) -> Result<(), Fail> {
     let mut out = Bytes::new(rt.alloc());
     write_reply(&reply, &mut out).ok().ok_or("memory")?;
     assert_eq!(rt; out.as_slice(), REPLY.as_slice());
+    Ok(())
+}
+
+#[test]
+fn a_notice_is_written(rt: HostRuntime) -> Result<(), Fail> {
+    let notice = Notice {
+        kind: 11,
+        subject: 258,
+        context: Guid(0x00112233_4455_6677_8899_AABBCCDDEEFF),
+        value: 3,
+        text: Text::new(b"abc"),
+    };
+    let mut out = Bytes::from_slice(rt.alloc(), &[200])?;
+    write_notice(&notice, &mut out)?;
+    let bytes = [
+        200, 11, 2, 1, 0, 0, 0, 0, 0, 0, // the byte ahead, kind, subject
+        0, 17, 34, 51, 68, 85, 102, 119, 136, 153, 170, 187, 204, 221, 238, 255, // context
+        3, 0, 0, 0, 0, 0, 0, 0, 3, 0, 97, 98, 99, // value, text
+    ];
+    assert_eq!(rt; out.as_slice(), bytes.as_slice());
     Ok(())
 }

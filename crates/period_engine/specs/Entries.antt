@@ -1,5 +1,5 @@
 -- Entries: the engine's ends of streams, and the streams of the stage that they stand for (this project's own).
-use Rattle.std.specs.Prelude.{◌≡◌, ℕ, ◌+◌, ◌≤◌, List, length, map, Bool, false}
+use Rattle.std.specs.Prelude.{◌≡◌, ℕ, ◌+◌, ◌≤◌, List, length, map, Bool, false, true}
 use Rattle.ca_base.specs.declared.limits.TheConstants.{CLIENTS, MAX_COUNT}
 use Rattle.ca_stage.specs.Stage.{Stream, BufferData, no_data}
 use Rattle.ca_stage.specs.Moves.{is_playing}
@@ -64,9 +64,9 @@ pub record IsRested {E : Type 0} (state : E → EndState) (e : StreamEntry E) : 
 abbrev pub is_played : {E : Type 0} → ℕ → StreamEntry E → Bool
 is_played number e = is_playing number (stream_with no_data e)
 
--- the position of an entry of this endpoint has room for p frames more
+-- the position of an entry that a period of this endpoint plays has room for p frames more
 abbrev pub HasRoom : {E : Type 0} → ℕ → ℕ → StreamEntry E → Type 0
-HasRoom number p e = e.endpoint.0 ≡ number → e.position + p ≤ MAX_COUNT
+HasRoom number p e = is_played number e ≡ true → e.position + p ≤ MAX_COUNT
 
 -- in a period of an endpoint: of frames that were seen at most p are picked, of streams that it plays alone, and the
 -- position has room for them

@@ -24,8 +24,8 @@ pub record IsSameEntry {E : Type 0} (a b : StreamEntry E) : Type 0 where
   pub session : b.session ≡ a.session
   pub gains : b.gains ≡ a.gains
 
--- an entry went on as f moves its stream: by steps of its store, for all data that agree with them. Its position goes
--- as f moves it whatever the data are
+-- an entry went on as f moves its stream: by steps of its store, for all data that agree with them. Whether it runs,
+-- its gate and its position go as f moves them whatever the data are
 pub record Turned {E : Type 0} (moves : E → List Step → E → Type 0) (f : Stream → Stream) (a b : StreamEntry E) : Type 0
   where
     pub same : IsSameEntry a b
@@ -33,6 +33,8 @@ pub record Turned {E : Type 0} (moves : E → List Step → E → Type 0) (f : S
     pub made : moves a.store steps b.store
     pub turns : (d : BufferData) → Agrees a.channels steps d →
         f (stream_with d a) ≡ stream_with (data_after a.channels steps d) b
+    pub running : b.running ≡ (f (stream_with no_data a)).running
+    pub gate : b.gate ≡ (f (stream_with no_data a)).gate
     pub position : b.position ≡ (f (stream_with no_data a)).position
 
 -- a move of those streams that an endpoint's period plays

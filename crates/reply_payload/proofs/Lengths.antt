@@ -1,5 +1,5 @@
 -- How long the payload is that lists an endpoint's sessions.
-use Rattle.std.proofs.Common.{◌≡◌, ℕ, ◌*◌, ◌≤◌, List, [], ◌∷◌, ◌++◌, length, filter, Bool, refl, ap, arith}
+use Rattle.std.proofs.Common.{◌≡◌, ℕ, ◌*◌, ◌≤◌, List, [], ◌∷◌, length, filter, Bool, refl, ap, arith}
 use Rattle.std.specs.Int.{w32, w64, to_le_bytes}
 use Rattle.std.proofs.lemmas.List.{length-append, length-map}
 use Rattle.ca_base.specs.declared.limits.TheConstants.{SESSIONS}

@@ -1,17 +1,24 @@
 //! What granted calls answer.
 
-ghost use Rattle.std.specs.Prelude.{◌≡◌, ◌+◌, ◌≤◌, [], ◌∷◌, ◌++◌, length, if◌then◌else◌};
+ghost use Rattle.std.specs.Prelude.{◌≡◌, ◌≤◌, [], ◌∷◌, ◌++◌, length, if◌then◌else◌};
 ghost use Rattle.std.specs.Int.{to_le_bytes, w32};
-ghost use Rattle.ca_machine.specs.Streams.{format_payload};
 ghost use Rattle.reply_payload.specs.Answers.{is_failure, payload_bytes, payload_code};
 
-use ca_base::limits::MAX_TEXT;
+use crate::pieces::{add, flag, put_format};
+use ca_base::limits::{MAX_TEXT, NOTICES};
 use ca_base::{Bytes, Hr};
-use wave_format::{Format, format_length, write_format};
+use call_wire::NOTICE_HEAD;
+use wave_format::Format;
 
-/// The longest payload of a reply, in bytes: a session's data. 55 are numbers, and each of four texts has two bytes of
-/// length.
-pub const REPLY_ROOM: usize = 55 + 4 * (2 + MAX_TEXT);
+/// What a payload of notices has ahead of them, in bytes: how many event flags there are, how many notices were lost, and
+/// how many there are.
+pub const NOTICES_HEAD: usize = 4 + 8 + 4;
+
+/// The longest notice in a payload, in bytes.
+pub const LONGEST_NOTICE: usize = NOTICE_HEAD + MAX_TEXT;
+
+/// The longest payload of a reply, in bytes: all notices that a connection keeps, each with the longest text.
+pub const REPLY_ROOM: usize = NOTICES_HEAD + NOTICES * LONGEST_NOTICE;
 
 /// The payload of a granted call.
 #[derive(Clone, Copy, Debug, PartialEq, Eq)]
@@ -32,31 +39,6 @@ pub enum Payload {
     Period { frames: u32, failed: bool },
 }
 
-/// Adds bytes that fit without asking for memory.
-pub fn add(out: &mut Bytes, bytes: &[u8])
-    requires { length out.old.list + length bytes.now ≤ out.old.capacity }
-    ensures list { out.new.list ≡ out.old.list ++ bytes.now }
-    ensures keeps { out.old.capacity ≤ out.new.capacity }
-{
-    if out.append(bytes).is_err() {
-        unreachable!();
-    }
-}
-
-/// A format: two bytes of length, and its bytes.
-fn put_format(f: &Format, out: &mut Bytes)
-    requires empty { out.old.list ≡ [] }
-    requires room { REPLY_ROOM ≤ out.old.capacity }
-    ensures list { out.new.list ≡ format_payload f.now }
-    ensures within { length out.new.list ≤ REPLY_ROOM }
-    ensures keeps { out.old.capacity ≤ out.new.capacity }
-{
-    add(out, &format_length(f).to_le_bytes());
-    if write_format(f, out).is_err() {
-        unreachable!();
-    }
-}
-
 /// A period's frames, and a byte that says whether the device failed.
 fn put_period(frames: u32, failed: bool, out: &mut Bytes)
     requires empty { out.old.list ≡ [] }
@@ -65,7 +47,7 @@ fn put_period(frames: u32, failed: bool, out: &mut Bytes)
     ensures keeps { out.old.capacity ≤ out.new.capacity }
 {
     let [a, b, c, d] = frames.to_le_bytes();
-    add(out, &[a, b, c, d, failed as u8]);
+    add(out, &[a, b, c, d, flag(failed)]);
 }
 
 impl Payload {

@@ -1,24 +1,17 @@
 //! What is told of sessions (IAudioSessionEnumerator, IAudioSessionControl2).
 
-ghost use Rattle.std.specs.Prelude.{◌≡◌, ◌+◌, ◌≤◌, [], ◌++◌, length, if◌then◌else◌};
-ghost use Rattle.ca_base.specs.declared.limits.TheConstants.{MAX_TEXT, SESSIONS};
+ghost use Rattle.std.specs.Prelude.{◌≡◌, ◌+◌, ◌≤◌, [], ◌++◌, length};
+ghost use Rattle.ca_base.specs.declared.limits.TheConstants.{SESSIONS};
 ghost use Rattle.session_manager.specs.Book.{IsSession};
 ghost use Rattle.session_manager.specs.Sessions.{numbers_on};
 ghost use Rattle.ca_machine.specs.Sessions.{levels_payload, numbers_payload, session_numbers, session_payload};
-ghost use Rattle.ca_machine.specs.Sessions.{text_payload};
 ghost use Rattle.reply_payload.specs.declared.payload.TheConstants.{REPLY_ROOM};
 
-use crate::payload::{REPLY_ROOM, add};
+use crate::payload::REPLY_ROOM;
+use crate::pieces::{add, flag, put_text};
 use ca_base::limits::MAX_LEVEL;
 use ca_base::{Bytes, EndpointNo, Text};
 use session_manager::{Session, SessionBook};
-
-/// A byte that says whether something holds.
-fn flag(holds: bool) -> u8
-    ensures { result ≡ (if holds then 1 else 0) }
-{
-    holds as u8
-}
 
 /// Puts levels: how many, and each.
 fn put_levels(levels: &[u32], out: &mut Bytes)
@@ -32,18 +25,6 @@ fn put_levels(levels: &[u32], out: &mut Bytes)
     'levels: for level in levels.iter() {
         add(out, &level.to_le_bytes());
     }
-}
-
-/// Puts a text: its length, and its bytes.
-fn put_text(text: &Text, out: &mut Bytes)
-    requires room { length out.old.list + 2 + MAX_TEXT ≤ out.old.capacity }
-    ensures list { out.new.list ≡ out.old.list ++ text_payload text.now }
-    ensures within { length out.new.list ≤ length out.old.list + 2 + MAX_TEXT }
-    ensures keeps { out.old.capacity ≤ out.new.capacity }
-{
-    let bytes = text.as_bytes();
-    add(out, &(bytes.len() as u16).to_le_bytes());
-    add(out, bytes);
 }
 
 /// Puts the numbers of a session's data: 55 bytes at most.

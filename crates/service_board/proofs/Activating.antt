@@ -18,8 +18,9 @@ use Rattle.ca_stage.specs.Tally.{Tally, no_tally}
 use Rattle.ca_stage.specs.Order.{RisesFrom}
 use Rattle.ca_stage.proofs.Lists.{find-append, first_of_two}
 use Rattle.ca_machine.specs.declared.state.Client.{Client}
-use Rattle.ca_machine.specs.declared.state.Endpoint.{Endpoint}
-use Rattle.ca_machine.specs.State.{State, endpoint_at, is_connection, is_endpoint, live_clients}
+use Rattle.device_registry.specs.declared.endpoint.Endpoint.{Endpoint}
+use Rattle.ca_machine.specs.State.{State, endpoint_at, is_connection, live_clients}
+use Rattle.device_registry.specs.Endpoints.{is_endpoint}
 use Rattle.ca_machine.specs.SharedRows.{control_rows, is_inactive}
 use Rattle.ca_machine.specs.Clients.{activate_plan, activate_rows, is_role, new_client}
 use Rattle.buffer_ring.specs.declared.step.EndState.{EndState}
@@ -56,7 +57,7 @@ verdict_of missing wrong inactive full worn = first (
 
 module _ {D E : Type 0} (b : Board D E) (conn endpoint role : ℕ) (connected : Says b (control_rows conn) None) where
   says_by : (o : Option Endpoint) (wrong inactive full worn : Bool) →
-      find (is_endpoint endpoint) b.book.endpoints.items ≡ o → not (is_role role) ≡ wrong → is_inactive o ≡ inactive →
+      find (is_endpoint endpoint) b.book.registry.list ≡ o → not (is_role role) ≡ wrong → is_inactive o ≡ inactive →
       nat_le CLIENTS (length b.book.clients.items) ≡ full → nat_le MAX_COUNT b.book.clients_made ≡ worn →
       Says b (λ st. activate_rows st conn endpoint role) (verdict_of (is_none o) wrong inactive full worn)
   says_by o wrong inactive full worn found role_is state_is full_is worn_is =
@@ -66,24 +67,24 @@ module _ {D E : Type 0} (b : Board D E) (conn endpoint role : ℕ) (connected : 
       (nat_le CLIENTS (length b.book.clients.items)) (nat_le MAX_COUNT b.book.clients_made)) found
       ∙ cc)
 
-  pub unknown_endpoint : None ≡ position (is_endpoint endpoint) b.book.endpoints.items →
+  pub unknown_endpoint : None ≡ position (is_endpoint endpoint) b.book.registry.list →
       Says b (λ st. activate_rows st conn endpoint role) (Some hr.E_NOTFOUND)
   unknown_endpoint e =
-      says_by None _ _ _ _ (none_at (is_endpoint endpoint) b.book.endpoints.items e) refl refl refl refl
+      says_by None _ _ _ _ (none_at (is_endpoint endpoint) b.book.registry.list e) refl refl refl refl
 
-  pub wrong_role : (at : ℕ) → Some at ≡ position (is_endpoint endpoint) b.book.endpoints.items →
+  pub wrong_role : (at : ℕ) → Some at ≡ position (is_endpoint endpoint) b.book.registry.list →
       false ≡ is_role role → Says b (λ st. activate_rows st conn endpoint role) (Some hr.E_INVALIDARG)
   wrong_role at there r =
-      let f = found_at (is_endpoint endpoint) b.book.endpoints.items at there in
+      let f = found_at (is_endpoint endpoint) b.book.registry.list at there in
       says_by (Some f.member) true _ _ _ f.found (ap not (sym r)) refl refl refl
 
-  module _ (at : ℕ) (e : Endpoint) (there : Some at ≡ position (is_endpoint endpoint) b.book.endpoints.items)
-      (read : e ≡ get_or b.book.endpoints.items at e) where
-    known : find (is_endpoint endpoint) b.book.endpoints.items ≡ Some e
+  module _ (at : ℕ) (e : Endpoint) (there : Some at ≡ position (is_endpoint endpoint) b.book.registry.list)
+      (read : e ≡ get_or b.book.registry.list at e) where
+    known : find (is_endpoint endpoint) b.book.registry.list ≡ Some e
     known =
-        let f = found_at (is_endpoint endpoint) b.book.endpoints.items at there in
+        let f = found_at (is_endpoint endpoint) b.book.registry.list at there in
         f.found
-        ∙ ap (λ x. Some x) (sym (get_or_from_slice_get b.book.endpoints.items at f.member e f.here) ∙ sym read)
+        ∙ ap (λ x. Some x) (sym (get_or_from_slice_get b.book.registry.list at f.member e f.here) ∙ sym read)
 
     module _ (r : true ≡ is_role role) where
       pub inactive : not (e.state == STATE_ACTIVE) ≡ true →
@@ -112,7 +113,8 @@ module _ {D E : Type 0} (b : Board D E) (conn endpoint role : ℕ)
   clients_free =
       let st = state_of (λ client. no_data) no_tally b in
       let connected = row_fails _ hr.E_HANDLE _ (says (λ client. no_data) no_tally) in
-      let there = row_fails _ hr.E_NOTFOUND _ connected.1 in
+      let runs = row_fails b.book.is_shut hr.SERVICE_NOT_RUNNING _ connected.1 in
+      let there = row_fails _ hr.E_NOTFOUND _ runs.1 in
       let role_is = row_fails _ hr.E_INVALIDARG _ there.1 in
       let active = row_fails _ hr.DEVICE_INVALIDATED _ role_is.1 in
       let room = row_fails (nat_le CLIENTS (length b.book.clients.items)) hr.CLIENTS_FULL _ active.1 in
@@ -183,7 +185,7 @@ module _ {D E : Type 0} (state : E → EndState) (b : Board D E) (order : InOrde
         rooms = record {
           connections = old.rooms.connections;
           clients = let r = old.rooms.clients in omega arith;
-          endpoints = old.rooms.endpoints;
+          notices = old.rooms.notices;
         };
         apart = old.apart;
         opens = old.opens;
@@ -215,13 +217,10 @@ module _ {D E : Type 0} (state : E → EndState) (b : Board D E) (order : InOrde
         ap (find (λ x. x.client.0 == e.client.0)) pushed
         ∙ still_found (λ x. x.client.0 == e.client.0) b.book.clients.items h.client c h.live;
     on = h.on;
-    endpoint = h.endpoint;
-    there = h.there;
-    channels = h.channels;
+    opens = h.opens;
     within = h.within;
     gains = h.gains;
     renders = h.renders;
-    position = h.position;
   }
 
   pub activated_order : InOrder state (record b { book = with_client })
@@ -235,4 +234,5 @@ module _ {D E : Type 0} (state : E → EndState) (b : Board D E) (order : InOrde
     book = pushed_book;
     room = order.room;
     seat_room = order.seat_room;
+    draft_room = order.draft_room;
   }

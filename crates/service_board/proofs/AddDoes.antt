@@ -19,8 +19,9 @@ use Rattle.ca_stage.specs.Moves.{added, after_moves, has_playhead, playhead_afte
 use Rattle.ca_stage.specs.Order.{RisesFrom}
 use Rattle.ca_stage.specs.Tally.{Tally, no_tally}
 use Rattle.ca_stage.proofs.Lists.{find-append, first_of_two, map_same}
-use Rattle.ca_machine.specs.declared.state.Endpoint.{Endpoint}
-use Rattle.ca_machine.specs.State.{State, is_endpoint}
+use Rattle.device_registry.specs.declared.endpoint.Endpoint.{Endpoint}
+use Rattle.ca_machine.specs.State.{State}
+use Rattle.device_registry.specs.Endpoints.{EndpointList, added as with_one_more, is_endpoint}
 use Rattle.ca_machine.specs.Plan.{Plan}
 use Rattle.ca_machine.specs.Plan.Answer.{found, out_of_memory}
 use Rattle.ca_machine.specs.Devices.{add_plan, add_rows, new_endpoint}
@@ -29,7 +30,7 @@ use Rattle.period_engine.specs.declared.entry.StreamEntry.{StreamEntry}
 use Rattle.period_engine.specs.Entries.{streams_of}
 use Rattle.service_board.specs.Board.{playhead_of, stage_with, state_of}
 use Rattle.service_board.specs.Does.{AnyData, Does, Made, store_at}
-use Rattle.service_board.specs.InOrder.{Belongs, InOrder, IsBook, Seats, is_seat, next_at}
+use Rattle.service_board.specs.InOrder.{IsOn, Belongs, InOrder, IsBook, Seats, is_seat, next_at}
 use Rattle.service_board.specs.Lookups.{Says}
 use Rattle.service_board.specs.declared.board.Board.{Board}
 use Rattle.service_board.specs.declared.board.Seat.{Seat}
@@ -60,8 +61,8 @@ rises_push low n [] rises le below = (le, tt)
 rises_push low n (m ∷ ns) rises le below = (rises.0, rises_push (suc m) n ns rises.1 below.0 below.1)
 
 numbers_below : (n last : ℕ) (endpoints : List Endpoint) → last < n →
-    AllByRecursion (λ e. e.endpoint.0 ≤ last) endpoints →
-    AllByRecursion (λ m. m < n) (map (λ e. e.endpoint.0) endpoints)
+    AllByRecursion (λ e. e.no.0 ≤ last) endpoints →
+    AllByRecursion (λ m. m < n) (map (λ e. e.no.0) endpoints)
 numbers_below n last [] lt all = tt
 numbers_below n last (e ∷ endpoints) lt all =
     let le = all.0 in
@@ -69,7 +70,7 @@ numbers_below n last (e ∷ endpoints) lt all =
 
 -- no seat has a greater number than the last one
 no_head : (n last : ℕ) (seats : List Seat) (endpoints : List Endpoint) → AllZip Seats seats endpoints → last < n →
-    AllByRecursion (λ e. e.endpoint.0 ≤ last) endpoints → has_playhead n (map playhead_of seats) ≡ false
+    AllByRecursion (λ e. e.no.0 ≤ last) endpoints → has_playhead n (map playhead_of seats) ≡ false
 no_head n last [] [] h lt all = refl
 no_head n last (s ∷ seats) (e ∷ endpoints) h lt all =
     let number = h.0.number in
@@ -107,17 +108,18 @@ next_stays n seats s =
 module _ {D E : Type 0} (state : E → EndState) (b : Board D E) (order : InOrder state b) (number flow : ℕ)
     (format name : List ℕ) (says : Says b (λ st. add_rows st number flow format name) None) where
   -- there is room for an endpoint more, and its number is new
-  pub free_to_add : (length b.book.endpoints.items < ENDPOINTS) × (b.book.last_endpoint < number)
+  pub free_to_add : (length b.book.registry.list < ENDPOINTS) × (b.book.registry.last < number)
   free_to_add =
-      let first = row_fails _ hr.E_NOTIMPL _ (says (λ client. no_data) no_tally) in
+      let runs = row_fails b.book.is_shut hr.SERVICE_NOT_RUNNING _ (says (λ client. no_data) no_tally) in
+      let first = row_fails _ hr.E_NOTIMPL _ runs.1 in
       let second = row_fails _ hr.E_INVALIDARG _ first.1 in
-      let third = row_fails (nat_le ENDPOINTS (length b.book.endpoints.items)) hr.ENDPOINTS_FULL None second.1 in
-      let above = or_parts (nat_le number b.book.last_endpoint) _ second.0 in
-      (leb-false ENDPOINTS (length b.book.endpoints.items) third.0, leb-false number b.book.last_endpoint above.0)
+      let third = row_fails (nat_le ENDPOINTS (length b.book.registry.list)) hr.ENDPOINTS_FULL None second.1 in
+      let above = or_parts (nat_le number b.book.registry.last) _ second.0 in
+      (leb-false ENDPOINTS (length b.book.registry.list) third.0, leb-false number b.book.registry.last above.0)
 
-  below_number : AllByRecursion (λ e. e.endpoint.0 ≤ b.book.last_endpoint) b.book.endpoints.items
+  below_number : AllByRecursion (λ e. e.no.0 ≤ b.book.registry.last) b.book.registry.list
   below_number =
-      recursion_from_All (λ (e : Endpoint). e.endpoint.0 ≤ b.book.last_endpoint) b.book.endpoints.items order.book.added
+      recursion_from_All (λ (e : Endpoint). e.no.0 ≤ b.book.registry.last) b.book.registry.list order.book.added
 
   -- memory ran out
   pub no_memory : (faults : D → ℕ) (told : D → Option (List DeviceLog)) (moves : E → List Step → E → Type 0)
@@ -132,23 +134,29 @@ module _ {D E : Type 0} (state : E → EndState) (b : Board D E) (order : InOrde
       (record { tells = add_none (told b.devices); counts = refl }))
 
   module _ (new : Board D E) (endpoint : Endpoint) (seat : Seat)
-      (pushed : new.book.endpoints.items ≡ b.book.endpoints.items ++ endpoint ∷ [])
+      (pushed : new.book.registry ≡ with_one_more endpoint b.book.registry)
       (seated : new.seats.items ≡ b.seats.items ++ seat ∷ [])
       (endpoint_is : endpoint ≡ new_endpoint number format name)
       (seat_is : playhead_of seat ≡ record { number = number; next = 0 })
     where
       abbrev pub added_board : Board D E
-      added_board = record b {
-        book = record (b.book) { endpoints = new.book.endpoints; last_endpoint = number };
-        seats = new.seats;
-      }
+      added_board = record b { book = record (b.book) { registry = new.book.registry }; seats = new.seats }
+
+      list_is : new.book.registry.list ≡ b.book.registry.list ++ endpoint ∷ []
+      list_is = ap (λ (r : EndpointList). r.list) pushed
+
+      number_is : endpoint.no.0 ≡ number
+      number_is = ap (λ (e : Endpoint). e.no.0) endpoint_is
+
+      last_is : new.book.registry.last ≡ number
+      last_is = ap (λ (r : EndpointList). r.last) pushed ∙ number_is
 
       heads_are : map playhead_of new.seats.items
           ≡ with_added (added number) (map (playhead_after (added number)) (map playhead_of b.seats.items))
       heads_are =
           let heads = map playhead_of b.seats.items in
           let none =
-          no_head number b.book.last_endpoint b.seats.items b.book.endpoints.items order.seats free_to_add.1
+          no_head number b.book.registry.last b.seats.items b.book.registry.list order.seats free_to_add.1
           below_number
           in
           ap (map playhead_of) seated
@@ -172,48 +180,53 @@ module _ {D E : Type 0} (state : E → EndState) (b : Board D E) (order : InOrde
           answers_granted_by (state_of datas tally b) (add_plan (state_of datas tally b) number flow format name)
           hr.S_OK [] (state_of datas tally added_board) (outside faults told b.devices)
           (outside faults told b.devices) (found ∷ []) (says datas tally) refl refl refl
-          (ap₂ (λ es stage. record (state_of datas tally b) {
-            endpoints = es;
-            last_endpoint = number;
+          (ap₂ (λ (r : List Endpoint × ℕ) stage. record (state_of datas tally b) {
+            endpoints = r.0;
+            last_endpoint = r.1;
             stage = stage;
-          }) (pushed ∙ ap (λ (e : Endpoint). b.book.endpoints.items ++ e ∷ []) endpoint_is) (stage_is datas))
+          })
+          (ap₂ (λ es last. (es, last))
+          (list_is ∙ ap (λ (e : Endpoint). b.book.registry.list ++ e ∷ []) endpoint_is) last_is)
+          (stage_is datas))
           (record { tells = add_none (told b.devices); counts = refl }))
 
       -- ---- the order of the board
 
-      number_is : endpoint.endpoint.0 ≡ number
-      number_is = ap (λ (e : Endpoint). e.endpoint.0) endpoint_is
-
-      still_belongs : (e : StreamEntry E) → Belongs b.book b.seats.items e → Belongs added_board.book new.seats.items e
-      still_belongs e h =
-          let before = h.position in
-          let rises = next_stays e.endpoint.0 b.seats.items seat in
-          let after : next_at e.endpoint.0 new.seats.items ≡ next_at e.endpoint.0 (b.seats.items ++ seat ∷ []) =
-          ap (next_at e.endpoint.0) seated in
+      still_on : (n channels position : ℕ) → IsOn n channels position b.book.registry.list b.seats.items →
+          IsOn n channels position new.book.registry.list new.seats.items
+      still_on n channels position on =
+          let before = on.behind in
+          let rises = next_stays n b.seats.items seat in
+          let after : next_at n new.seats.items ≡ next_at n (b.seats.items ++ seat ∷ []) = ap (next_at n) seated in
           record {
-            client = h.client;
-            live = h.live;
-            on = h.on;
-            endpoint = h.endpoint;
+            endpoint = on.endpoint;
             there =
-                ap (find (is_endpoint e.endpoint.0)) pushed
-                ∙ still_found (is_endpoint e.endpoint.0) b.book.endpoints.items h.endpoint endpoint h.there;
-            channels = h.channels;
-            within = h.within;
-            gains = h.gains;
-            renders = h.renders;
-            position = omega arith;
+                ap (find (is_endpoint n)) list_is
+                ∙ still_found (is_endpoint n) b.book.registry.list on.endpoint endpoint on.there;
+            fits = on.fits;
+            behind = omega arith;
           }
 
-      added_book : vec_capacity new.book.endpoints ≡ vec_capacity b.book.endpoints → IsBook added_board.book
-      added_book capacity =
+      still_belongs : (e : StreamEntry E) → Belongs b.book b.seats.items e → Belongs added_board.book new.seats.items e
+      still_belongs e h = record {
+        client = h.client;
+        live = h.live;
+        on = h.on;
+        opens = λ unclosed. still_on e.endpoint.0 e.channels e.position (h.opens unclosed);
+        within = h.within;
+        gains = h.gains;
+        renders = h.renders;
+      }
+
+      added_book : IsBook added_board.book
+      added_book =
           let old = order.book in
           let above = free_to_add.1 in
           record {
             rooms = record {
               connections = old.rooms.connections;
               clients = old.rooms.clients;
-              endpoints = let room = old.rooms.endpoints in omega arith;
+              notices = old.rooms.notices;
             };
             apart = old.apart;
             opens = old.opens;
@@ -222,35 +235,36 @@ module _ {D E : Type 0} (state : E → EndState) (b : Board D E) (order : InOrde
             made = old.made;
             clients_made = old.clients_made;
             endpoints =
-                subst (λ es. RisesFrom 0 (map (λ (e : Endpoint). e.endpoint.0) es)) (sym pushed)
+                subst (λ es. RisesFrom 0 (map (λ (e : Endpoint). e.no.0) es)) (sym list_is)
                 (subst (RisesFrom 0)
-                (sym (map-append (λ (e : Endpoint). e.endpoint.0) b.book.endpoints.items (endpoint ∷ [])
-                ∙ ap (λ n. map (λ (e : Endpoint). e.endpoint.0) b.book.endpoints.items ++ n ∷ []) number_is))
-                (rises_push 0 number (map (λ (e : Endpoint). e.endpoint.0) b.book.endpoints.items) old.endpoints
+                (sym (map-append (λ (e : Endpoint). e.no.0) b.book.registry.list (endpoint ∷ [])
+                ∙ ap (λ n. map (λ (e : Endpoint). e.no.0) b.book.registry.list ++ n ∷ []) number_is))
+                (rises_push 0 number (map (λ (e : Endpoint). e.no.0) b.book.registry.list) old.endpoints
                 (omega arith)
-                (numbers_below number b.book.last_endpoint b.book.endpoints.items above below_number)));
+                (numbers_below number b.book.registry.last b.book.registry.list above below_number)));
             added =
-                subst (All (λ (e : Endpoint). e.endpoint.0 ≤ number)) (sym pushed)
-                (All-push (λ (e : Endpoint). e.endpoint.0 ≤ number) b.book.endpoints.items endpoint
-                (All-weaker (λ (e : Endpoint). e.endpoint.0 ≤ b.book.last_endpoint) (λ e. e.endpoint.0 ≤ number)
-                (λ e le. omega arith) b.book.endpoints.items old.added) (omega (arith, number_is)));
+                subst (λ n. All (λ (e : Endpoint). e.no.0 ≤ n) new.book.registry.list) (sym last_is)
+                (subst (All (λ (e : Endpoint). e.no.0 ≤ number)) (sym list_is)
+                (All-push (λ (e : Endpoint). e.no.0 ≤ number) b.book.registry.list endpoint
+                (All-weaker (λ (e : Endpoint). e.no.0 ≤ b.book.registry.last) (λ e. e.no.0 ≤ number)
+                (λ e le. omega arith) b.book.registry.list old.added) (omega (arith, number_is))));
             levels = old.levels;
             owned = old.owned;
           }
 
-      pub added_order : vec_capacity new.book.endpoints ≡ vec_capacity b.book.endpoints →
-          vec_capacity new.seats ≡ vec_capacity b.seats → Seats seat endpoint → InOrder state added_board
-      added_order capacity seat_capacity fits = record {
+      pub added_order : vec_capacity new.seats ≡ vec_capacity b.seats → Seats seat endpoint → InOrder state added_board
+      added_order seat_capacity fits = record {
         order = order.order;
         rested = order.rested;
         belong =
             All-weaker (Belongs b.book b.seats.items) (Belongs added_board.book new.seats.items) still_belongs
             b.entries.items order.belong;
         seats =
-            subst (λ ss. AllZip Seats ss new.book.endpoints.items) (sym seated)
-            (subst (AllZip Seats (b.seats.items ++ seat ∷ [])) (sym pushed)
-            (zip_push b.seats.items b.book.endpoints.items seat endpoint order.seats fits));
-        book = added_book capacity;
+            subst (λ ss. AllZip Seats ss new.book.registry.list) (sym seated)
+            (subst (AllZip Seats (b.seats.items ++ seat ∷ [])) (sym list_is)
+            (zip_push b.seats.items b.book.registry.list seat endpoint order.seats fits));
+        book = added_book;
         room = order.room;
         seat_room = let room = order.seat_room in omega arith;
+        draft_room = order.draft_room;
       }

@@ -3,7 +3,7 @@ use Rattle.std.proofs.Common.{◌≡◌, ℕ, ◌+◌, ◌<◌, ◌≤◌, List,
 use Rattle.std.proofs.Common.{refl, sym, ap, ◌||◌, ◌&&◌, ◌==◌, nat_eq, nat_lt, nat_le, arith, ◌∙◌, subst, eqb-true}
 use Rattle.std.specs.List.{All, AllByRecursion, IsDistinct, list_all, list_any}
 use Rattle.std.specs.Vec.{vec_capacity}
-use Rattle.std.proofs.lemmas.Bool.{and_parts, leb-true, not-false, or_from, or_parts}
+use Rattle.std.proofs.lemmas.Bool.{and_parts, false≢true, leb-true, not-false, or_from, or_parts}
 use Rattle.std.proofs.lemmas.Bool.Decides.{nat_tests}
 use Rattle.std.proofs.lemmas.Cmp.{nat_eq_equiv}
 use Rattle.std.proofs.lemmas.List.{length-map, map-append}
@@ -11,13 +11,16 @@ use Rattle.std.proofs.lemmas.List.Folds.{list_any-append}
 use Rattle.std.proofs.lemmas.List.Elements.{All-push, All-weaker, recursion_from_All}
 use Rattle.std.proofs.lemmas.Map.Keys.{IsDistinct-cons, IsDistinct-push}
 use Rattle.std.proofs.lemmas.Map.Steps.{length-le_from_distinct_below}
+use Rattle.ca_base.specs.declared.codes.Hr.{Hr}
 use Rattle.ca_base.specs.declared.codes.TheConstants.Hr as hr
+use Rattle.ca_base.specs.Rows.{Row}
 use Rattle.ca_base.specs.declared.limits.TheConstants.{CONNECTIONS, MAX_CONNECTION_NAME}
 use Rattle.buffer_ring.specs.declared.step.EndState.{EndState}
 use Rattle.ca_stage.specs.Stage.{BufferData, no_data}
 use Rattle.ca_stage.specs.Tally.{Tally, no_tally}
 use Rattle.ca_machine.specs.declared.state.Connection.{Connection}
-use Rattle.ca_machine.specs.State.{is_connection}
+use Rattle.ca_machine.specs.SharedRows.{connection_rows}
+use Rattle.ca_machine.specs.State.{State, is_connected, is_connection}
 use Rattle.ca_machine.specs.Clients.{is_name, is_name_byte, new_connection, open_plan, open_rows}
 use Rattle.period_engine.specs.declared.entry.StreamEntry.{StreamEntry}
 use Rattle.service_board.specs.Board.{state_of}
@@ -92,7 +95,38 @@ fewer_than_all n cs least most free apart opens =
         by true t f = let same = eqb-true q 0 t in omega arith
         by false t f = any_below q (CONNECTIONS + 1) (n ∷ numbers cs) within f
 
+-- a number that an open connection has is from 1 to their limit
+pub open_within : (n : ℕ) (cs : List Connection) → AllByRecursion IsOpen cs → list_any (is_connection n) cs ≡ true →
+    (1 ≤ n) × (n ≤ CONNECTIONS)
+open_within n [] h e = absurd (false≢true e)
+open_within n (c ∷ cs) h e = by (c.conn.0 == n) refl e (open_within n cs h.1)
+  where
+    by : (b : Bool) → (c.conn.0 == n) ≡ b → (b || list_any (is_connection n) cs) ≡ true →
+        (list_any (is_connection n) cs ≡ true → (1 ≤ n) × (n ≤ CONNECTIONS)) → (1 ≤ n) × (n ≤ CONNECTIONS)
+    by true t f later =
+        let least = h.0.least in
+        let most = h.0.most in
+        let same = eqb-true c.conn.0 n t in
+        (omega arith, omega arith)
+    by false t f later = later f
+
+-- of a connection that is open
+pub known_within : {D E : Type 0} (b : Board D E) (conn : ℕ) → IsBook b.book → Says b (connection_rows conn) None →
+    (1 ≤ conn) × (conn ≤ CONNECTIONS)
+known_within b conn is says =
+    open_within conn b.book.connections.items (recursion_from_All IsOpen b.book.connections.items is.opens)
+    (not-false (list_any (is_connection conn) b.book.connections.items)
+    (row_fails _ hr.E_HANDLE None (says (λ client. no_data) no_tally)).0)
+
 -- ---- a connection is opened
+
+-- the row of an Open behind that of a shutdown
+abbrev pub own_open_rows : ℕ → ℕ → List ℕ → State → List (Row Hr)
+own_open_rows conn process name st = (
+  not (nat_le 1 conn && nat_le conn CONNECTIONS) || (is_connected conn st || (process == 0 || not (is_name name))),
+  hr.E_INVALIDARG,
+)
+    ∷ []
 
 module _ {D E : Type 0} (b : Board D E) (conn process : ℕ) (name : List ℕ)
     (says : Says b (λ st. open_rows st conn process name) None) where
@@ -104,7 +138,8 @@ module _ {D E : Type 0} (b : Board D E) (conn process : ℕ) (name : List ℕ)
   free_conn : Free
   free_conn =
       let range = not (nat_le 1 conn && nat_le conn CONNECTIONS) in
-      let row = (row_fails _ hr.E_INVALIDARG None (says (λ client. no_data) no_tally)).0 in
+      let runs = row_fails b.book.is_shut hr.SERVICE_NOT_RUNNING _ (says (λ client. no_data) no_tally) in
+      let row = (row_fails _ hr.E_INVALIDARG None runs.1).0 in
       let ranged = or_parts range _ row in
       let own = or_parts (list_any (is_connection conn) b.book.connections.items) _ ranged.1 in
       let named = or_parts (process == 0) (not (is_name name)) own.1 in
@@ -158,7 +193,7 @@ module _ {D E : Type 0} (b : Board D E) (conn process : ℕ) (name : List ℕ)
           rooms = record {
             connections = let r = old.rooms.connections in omega arith;
             clients = old.rooms.clients;
-            endpoints = old.rooms.endpoints;
+            notices = old.rooms.notices;
           };
           apart =
               subst (λ cs. IsDistinct nat_eq (numbers cs)) (sym pushed)
@@ -193,13 +228,10 @@ module _ {D E : Type 0} (b : Board D E) (conn process : ℕ) (name : List ℕ)
       client = h.client;
       live = h.live;
       on = h.on;
-      endpoint = h.endpoint;
-      there = h.there;
-      channels = h.channels;
+      opens = h.opens;
       within = h.within;
       gains = h.gains;
       renders = h.renders;
-      position = h.position;
     }
 
     pub open_order : InOrder state (record b { book = with_connection })
@@ -213,4 +245,5 @@ module _ {D E : Type 0} (b : Board D E) (conn process : ℕ) (name : List ℕ)
       book = opened_book;
       room = order.room;
       seat_room = order.seat_room;
+      draft_room = order.draft_room;
     }

@@ -15,9 +15,10 @@ use Rattle.ca_base.specs.Rows.{first}
 use Rattle.ca_stage.specs.Stage.{BufferData, Playhead}
 use Rattle.ca_stage.specs.Fates.{next_of, place_of}
 use Rattle.ca_stage.specs.Tally.{Tally}
-use Rattle.ca_machine.specs.declared.state.Endpoint.{Endpoint}
-use Rattle.ca_machine.specs.State.{is_endpoint}
+use Rattle.device_registry.specs.declared.endpoint.Endpoint.{Endpoint}
+use Rattle.device_registry.specs.Endpoints.{is_endpoint}
 use Rattle.ca_machine.specs.Periods.{period_frames, period_of, period_plan}
+use Rattle.ca_machine.specs.State.{endpoint_at}
 use Rattle.service_board.specs.Board.{playhead_of, state_of}
 use Rattle.service_board.specs.Due.{FindsDue}
 use Rattle.service_board.specs.InOrder.{Seats, is_seat, next_at}
@@ -25,6 +26,7 @@ use Rattle.service_board.specs.Lookups.{Says}
 use Rattle.service_board.specs.declared.board.Board.{Board}
 use Rattle.service_board.specs.declared.board.Seat.{Seat}
 use Rattle.service_board.proofs.Finding.{FoundAt, find_mapped, found_at, none_at}
+use Rattle.service_board.proofs.Rows.{row_holds, row_passes}
 
 -- ---- the seat of an endpoint
 
@@ -92,42 +94,54 @@ next_of_seat b n datas tally = next_by_heads n b.seats.items
 
 -- ---- the rows of a period
 
-pub no_endpoint_says : {D E : Type 0} (b : Board D E) (n : ℕ) → None ≡ position (is_endpoint n) b.book.endpoints.items →
-    Says b (λ st. (period_plan st n).rows) (Some hr.E_NOTFOUND)
-no_endpoint_says b n e datas tally =
-    ap (λ o. first (period_of (state_of datas tally b) o).rows) (none_at (is_endpoint n) b.book.endpoints.items e)
+pub no_endpoint_says : {D E : Type 0} (b : Board D E) (n : ℕ) → b.book.is_shut ≡ false →
+    None ≡ position (is_endpoint n) b.book.registry.list → Says b (λ st. (period_plan st n).rows) (Some hr.E_NOTFOUND)
+no_endpoint_says b n runs e datas tally =
+    ap (λ o. first (period_of (state_of datas tally b) o).rows) (none_at (is_endpoint n) b.book.registry.list e)
+    ∙ row_passes b.book.is_shut hr.SERVICE_NOT_RUNNING _ runs refl
+
+-- a service that was shut down
+pub shut_period_says : {D E : Type 0} (b : Board D E) (n : ℕ) → b.book.is_shut ≡ true →
+    Says b (λ st. (period_plan st n).rows) (Some hr.SERVICE_NOT_RUNNING)
+shut_period_says b n shut datas tally = by (endpoint_at n (state_of datas tally b))
+  where
+    by : (o : Option Endpoint) →
+        first (period_of (state_of datas tally b) o).rows ≡ Some hr.SERVICE_NOT_RUNNING
+    by None = row_holds b.book.is_shut hr.SERVICE_NOT_RUNNING _ shut
+    by (Some e) = row_holds b.book.is_shut hr.SERVICE_NOT_RUNNING _ shut
 
 -- an endpoint, and its seat, as they are read at a place
-module _ {D E : Type 0} (b : Board D E) (n at : ℕ) (seats : AllZip Seats b.seats.items b.book.endpoints.items)
-    (there : Some at ≡ position (is_endpoint n) b.book.endpoints.items) (e : Endpoint)
-    (read : e ≡ get_or b.book.endpoints.items at e) where
-  abbrev found_there : FoundAt (is_endpoint n) b.book.endpoints.items at
-  found_there = found_at (is_endpoint n) b.book.endpoints.items at there
+module _ {D E : Type 0} (b : Board D E) (n at : ℕ) (runs : b.book.is_shut ≡ false)
+    (seats : AllZip Seats b.seats.items b.book.registry.list)
+    (there : Some at ≡ position (is_endpoint n) b.book.registry.list) (e : Endpoint)
+    (read : e ≡ get_or b.book.registry.list at e) where
+  abbrev found_there : FoundAt (is_endpoint n) b.book.registry.list at
+  found_there = found_at (is_endpoint n) b.book.registry.list at there
 
   read_is : found_there.member ≡ e
   read_is =
-      sym (get_or_from_slice_get b.book.endpoints.items at found_there.member e found_there.here) ∙ sym read
+      sym (get_or_from_slice_get b.book.registry.list at found_there.member e found_there.here) ∙ sym read
 
-  here : slice_get b.book.endpoints.items at ≡ Some e
+  here : slice_get b.book.registry.list at ≡ Some e
   here = found_there.here ∙ ap (λ x. Some x) read_is
 
-  found : find (is_endpoint n) b.book.endpoints.items ≡ Some e
+  found : find (is_endpoint n) b.book.registry.list ≡ Some e
   found = found_there.found ∙ ap (λ x. Some x) read_is
 
-  number_is : e.endpoint.0 ≡ n
-  number_is = eqb-true e.endpoint.0 n (ap (is_endpoint n) (sym read_is) ∙ found_there.passes)
+  number_is : e.no.0 ≡ n
+  number_is = eqb-true e.no.0 n (ap (is_endpoint n) (sym read_is) ∙ found_there.passes)
 
   abbrev its_seat : SeatAt b.seats.items at e
-  its_seat = seat_at b.seats.items b.book.endpoints.items at e seats here
+  its_seat = seat_at b.seats.items b.book.registry.list at e seats here
 
   pub seat_within : at < length b.seats.items
   seat_within = slice_get_within b.seats.items at its_seat.seat its_seat.here
 
   its_seat_found : find (is_seat n) b.seats.items ≡ Some its_seat.seat
-  its_seat_found = seat_found n b.seats.items b.book.endpoints.items at seats there ∙ its_seat.here
+  its_seat_found = seat_found n b.seats.items b.book.registry.list at seats there ∙ its_seat.here
 
   its_next : (datas : ℕ → BufferData) (tally : Tally) →
-      next_of e.endpoint.0 (state_of datas tally b).stage ≡ its_seat.seat.next
+      next_of e.no.0 (state_of datas tally b).stage ≡ its_seat.seat.next
   its_next datas tally =
       ap (λ k. next_of k (state_of datas tally b).stage) number_is
       ∙ next_of_seat b n datas tally
@@ -139,6 +153,7 @@ module _ {D E : Type 0} (b : Board D E) (n at : ℕ) (seats : AllZip Seats b.sea
       (if not a then Some hr.DEVICE_INVALIDATED else (if w then Some hr.WORN else None))
   says_by a w active worn datas tally =
       ap (λ o. first (period_of (state_of datas tally b) o).rows) found
+      ∙ row_passes b.book.is_shut hr.SERVICE_NOT_RUNNING _ runs refl
       ∙ ap (λ k. if not (e.state == STATE_ACTIVE) then Some hr.DEVICE_INVALIDATED
       else (if nat_lt MAX_COUNT (k + period_frames e) then Some hr.WORN else None)) (its_next datas tally)
       ∙ ap₂ (λ c v. if not c then Some hr.DEVICE_INVALIDATED else (if v then Some hr.WORN else None)) active worn
@@ -171,7 +186,7 @@ module _ {D E : Type 0} (b : Board D E) (n at : ℕ) (seats : AllZip Seats b.sea
         active = record {
           endpoint = e;
           here = here;
-          within = slice_get_within b.book.endpoints.items at e here;
+          within = slice_get_within b.book.registry.list at e here;
           found = found;
           number_is = number_is;
           active = active;

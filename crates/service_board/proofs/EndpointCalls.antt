@@ -7,7 +7,7 @@ use Rattle.ca_base.specs.Rows.{Row}
 use Rattle.buffer_ring.specs.declared.step.Step.{Step}
 use Rattle.ca_stage.specs.Stage.{BufferData}
 use Rattle.ca_stage.specs.Tally.{Tally}
-use Rattle.ca_machine.specs.declared.state.Endpoint.{Endpoint}
+use Rattle.device_registry.specs.declared.endpoint.Endpoint.{Endpoint}
 use Rattle.ca_machine.specs.State.{State, client_of}
 use Rattle.ca_machine.specs.Plan.{Outcome, plain}
 use Rattle.ca_machine.specs.SharedRows.{endpoint_of, with_endpoint}
@@ -51,6 +51,6 @@ endpoint_there b conn client at f outcome datas tally =
 
 -- the endpoint, as it is read by its place
 pub endpoint_read : (book : Book) (number at : ℕ) (e : Endpoint) (f : IsActiveAt number book at) →
-    e ≡ get_or book.endpoints.items at e → f.endpoint ≡ e
+    e ≡ get_or book.registry.list at e → f.endpoint ≡ e
 endpoint_read book number at e f read =
-    sym (get_or_from_slice_get book.endpoints.items at f.endpoint e f.here) ∙ sym read
+    sym (get_or_from_slice_get book.registry.list at f.endpoint e f.here) ∙ sym read

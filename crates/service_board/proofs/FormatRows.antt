@@ -10,19 +10,11 @@ use Rattle.ca_base.specs.declared.values.TheConstants.{SHARE_EXCLUSIVE}
 use Rattle.ca_base.specs.Rows.{Row}
 use Rattle.buffer_ring.specs.declared.step.Step.{Step}
 use Rattle.wave_format.specs.Format.{spelled}
-use Rattle.ca_machine.specs.declared.state.Endpoint.{Endpoint}
+use Rattle.device_registry.specs.declared.endpoint.Endpoint.{Endpoint}
 use Rattle.ca_machine.specs.Plan.{answered}
 use Rattle.ca_machine.specs.SharedRows.{control_rows}
 use Rattle.ca_machine.specs.State.{State}
-use Rattle.ca_machine.specs.Streams.{
-  endpoint_rows,
-  format_payload,
-  is_faulty,
-  is_format_supported_plan,
-  is_malformed,
-  matches,
-  supported,
-}
+use Rattle.ca_machine.specs.Streams.{endpoint_rows, format_payload, is_faulty, is_format_supported_plan, is_malformed, matches, supported}
 use Rattle.reply_payload.specs.Answers.{code_of, payload_bytes, payload_code, payload_of}
 use Rattle.service_board.specs.Board.{state_of}
 use Rattle.service_board.specs.Does.{AnyData, Does}
@@ -101,7 +93,7 @@ module _ {D E : Type 0} (faults : D → ℕ) (log : D → Option (List DeviceLog
     (stays : (a : E) → moves a [] a) (b : Board D E) (conn client share : ℕ) (bytes : List ℕ)
     (connected : Says b (control_rows conn) None) (shared : share ≡ SHARE_EXCLUSIVE → ⊥)
     (listed : share ≤ SHARE_EXCLUSIVE) (at : ℕ) (f : FindsEndpoint conn client b at) (e : Endpoint)
-    (read : e ≡ get_or b.book.endpoints.items at e) where
+    (read : e ≡ get_or b.book.registry.list at e) where
   pub tells_support : (result : Result Payload Hr) → TellsSupport result e.format bytes →
       Does faults log moves None AnyData b b (λ st. is_format_supported_plan st conn client share bytes)
       (code_of result) (payload_of result)

@@ -4,7 +4,7 @@ use Rattle.std.specs.List.{All, AllByRecursion, AllZip}
 use Rattle.std.specs.Vec.{vec_capacity, with_items}
 use Rattle.std.proofs.lemmas.List.{with_items_is}
 use Rattle.std.proofs.lemmas.List.Elements.{All-from_recursion, recursion_from_All}
-use Rattle.ca_base.specs.declared.limits.TheConstants.{CLIENTS, ENDPOINTS}
+use Rattle.ca_base.specs.declared.limits.TheConstants.{CLIENTS, ENDPOINTS, NOTICES}
 use Rattle.buffer_ring.specs.declared.step.EndState.{EndState}
 use Rattle.ca_stage.specs.Order.{RisesFrom}
 use Rattle.period_engine.specs.declared.entry.StreamEntry.{StreamEntry}
@@ -31,7 +31,7 @@ is_fresh_book book h = record {
   rooms = record {
     connections = h.rooms.connections;
     clients = h.rooms.clients;
-    endpoints = h.rooms.endpoints;
+    notices = h.rooms.notices;
   };
   apart = h.apart;
   opens = h.opens;
@@ -87,13 +87,10 @@ module _ {E : Type 0} (book : Book) where
         client = h.client;
         live = h.live;
         on = h.on;
-        endpoint = h.endpoint;
-        there = h.there;
-        channels = h.channels;
+        opens = h.opens;
         within = regains.within;
         gains = λ fresh. regains.gains h.client h.live;
         renders = h.renders;
-        position = h.position;
       })
 
   all_belong : (seats : List Seat) (xs ys : List (StreamEntry E)) → AllZip (Regains book) xs ys →
@@ -115,10 +112,10 @@ regained_there old xs ws read size regains =
 
 -- a board in order stays so
 pub fresh_order : {D E : Type 0} (state : E → EndState) (old new : Board D E) → InOrder state old →
-    new.book ≡ fresh_book old.book → new.seats ≡ old.seats →
+    new.book ≡ fresh_book old.book → new.seats ≡ old.seats → new.drafts ≡ old.drafts →
     vec_capacity new.entries ≡ vec_capacity old.entries →
     AllZip (Regains old.book) old.entries.items new.entries.items → InOrder state new
-fresh_order state old new order book seats room regains =
+fresh_order state old new order book seats drafts room regains =
     let xs = old.entries.items in
     let ys = new.entries.items in
     record {
@@ -133,9 +130,10 @@ fresh_order state old new order book seats room regains =
           (all_belong old.book old.seats.items xs ys regains
           (recursion_from_All (Belongs old.book old.seats.items) xs order.belong))));
       seats =
-          subst (λ k. AllZip Seats new.seats.items k.endpoints.items) (sym book)
-          (subst (λ s. AllZip Seats s.items old.book.endpoints.items) (sym seats) order.seats);
+          subst (λ k. AllZip Seats new.seats.items k.registry.list) (sym book)
+          (subst (λ s. AllZip Seats s.items old.book.registry.list) (sym seats) order.seats);
       book = subst IsBook (sym book) (is_fresh_book old.book order.book);
       room = subst (λ n. CLIENTS ≤ n) (sym room) order.room;
       seat_room = subst (λ s. ENDPOINTS ≤ vec_capacity s) (sym seats) order.seat_room;
+      draft_room = subst (λ v. NOTICES ≤ vec_capacity v) (sym drafts) order.draft_room;
     }

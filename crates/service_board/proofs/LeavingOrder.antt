@@ -84,6 +84,7 @@ module _ {D E : Type 0} (state : E → EndState) (moves : E → List Step → E 
     (left : book.clients.items ≡ filter (λ c. not (p c)) b.book.clients.items)
     (room : vec_capacity book.clients ≡ vec_capacity b.book.clients)
     (connection_room : vec_capacity book.connections ≡ vec_capacity b.book.connections)
+    (same_notices : length book.notices.items ≡ length b.book.notices.items)
     (apart : IsDistinct nat_eq (map (λ c. c.conn.0) book.connections.items))
     (opens : All IsOpen book.connections.items)
     (owned : All (IsOwned book.connections.items) (filter (λ c. not (p c)) b.book.clients.items)) where
@@ -92,6 +93,7 @@ module _ {D E : Type 0} (state : E → EndState) (moves : E → List Step → E 
   last_book = record (b.book) {
     connections = book.connections;
     clients = book.clients;
+    notices = book.notices;
     sessions = new.book.sessions;
     levels_changed = true;
   }
@@ -105,7 +107,7 @@ module _ {D E : Type 0} (state : E → EndState) (moves : E → List Step → E 
         rooms = record {
           connections = let r = rooms.connections in omega (arith, connection_room);
           clients = let r = rooms.clients in omega (arith, room);
-          endpoints = rooms.endpoints;
+          notices = same_notices ∙ rooms.notices;
         };
         apart = apart;
         opens = opens;
@@ -135,13 +137,10 @@ module _ {D E : Type 0} (state : E → EndState) (moves : E → List Step → E 
         ∙ found_kept (λ c. c.client.0) (λ c. not (p c)) e.client.0 0 b.book.clients.items h.client order.book.clients
         h.live (ap (λ cs. is_live cs e.client.0) (sym left) ∙ live);
     on = h.on;
-    endpoint = h.endpoint;
-    there = h.there;
-    channels = h.channels;
+    opens = h.opens;
     within = h.within;
     gains = λ t. absurd (true≢false t);
     renders = h.renders;
-    position = h.position;
   }
 
   pub order_left : InOrder state new
@@ -164,4 +163,5 @@ module _ {D E : Type 0} (state : E → EndState) (moves : E → List Step → E 
         book = book_left;
         room = let r = order.room in let s = forgets.room in omega arith;
         seat_room = order.seat_room;
+        draft_room = order.draft_room;
       })

@@ -16,6 +16,7 @@ use Rattle.ca_stage.specs.Tally.{Tally, tally_after}
 use Rattle.ca_stage.specs.Order.{RisesFrom, is_among}
 use Rattle.ca_stage.specs.Present.{present}
 use Rattle.session_manager.specs.declared.session.Session.{Session}
+use Rattle.event_notices.specs.Notices.{Notices}
 use Rattle.ca_machine.specs.declared.state.Client.{Client}
 use Rattle.ca_machine.specs.declared.state.Connection.{Connection}
 use Rattle.ca_machine.specs.State.{State, live_clients}
@@ -78,7 +79,13 @@ used_is datas entries s = any_mapped (λ (x : Stream). x.session == s.no.0) (str
 -- a board once clients left the book, and, it may be, their connection
 abbrev pub without_clients : {D E : Type 0} → Board D E → Book → Board D E
 without_clients b book =
-    record b { book = record (b.book) { connections = book.connections; clients = book.clients } }
+    record b {
+      book = record (b.book) {
+        connections = book.connections;
+        clients = book.clients;
+        notices = book.notices;
+      };
+    }
 
 module _ {D E : Type 0} (moves : E → List Step → E → Type 0) (b new : Board D E) (book : Book) (p : Client → Bool)
     (forgets : Forgets moves (without_clients b book) new)
@@ -116,13 +123,14 @@ module _ {D E : Type 0} (moves : E → List Step → E → Type 0) (b new : Boar
         (streams_left moves book.clients.items b.entries.items goes datas))
         ∙ sym (present_after_closes gone_clients book.clients.items before none_gone)
 
-    -- the state with a stage, sessions, clients and connections
-    abbrev built : Tally → Stage → List Session → List Client → List Connection → State
-    built t stage sessions clients connections = record (state_of datas t b) {
+    -- the state with a stage, sessions and clients, and with the connections and the notices of the book
+    abbrev built : Tally → Stage → List Session → List Client → State
+    built t stage sessions clients = record (state_of datas t b) {
       stage = stage;
       sessions = sessions;
       clients = clients;
-      connections = connections;
+      connections = book.connections.items;
+      notices = book.notices.items;
     }
 
     sessions_are : new.book.sessions.list ≡ filter (is_used after.streams) b.book.sessions.list
@@ -132,21 +140,25 @@ module _ {D E : Type 0} (moves : E → List Step → E → Type 0) (b new : Boar
         (λ s. sym (used_is (after_steps leaving_steps b.entries.items datas) new.entries.items s))
         b.book.sessions.list
 
-    pub state_left : (t : Tally) (connections : List Connection) → book.connections.items ≡ connections →
+    pub state_left : (t : Tally) (connections : List Connection) (notices : List Notices) →
+        book.connections.items ≡ connections → book.notices.items ≡ notices →
         state_of (after_steps leaving_steps b.entries.items datas) (tally_after t before (closes gone_clients)) new
         ≡ with_clients (filter (λ c. not (p c)) b.book.clients.items)
-        (moved (closes gone_clients) (record (state_of datas t b) { connections = connections }))
-    state_left t connections same =
+        (moved (closes gone_clients)
+        (record (state_of datas t b) { connections = connections; notices = notices }))
+    state_left t connections notices same told =
         let tally : Tally = tally_after t before (closes gone_clients) in
         ap (state_of (after_steps leaving_steps b.entries.items datas) tally) forgets.rest
-        ∙ ap (λ made. record (built tally after new.book.sessions.list book.clients.items book.connections.items) {
+        ∙ ap (λ made. record (built tally after new.book.sessions.list book.clients.items) {
           sessions_made = made;
         }) forgets.made
-        ∙ ap (λ ss. built tally after ss book.clients.items book.connections.items) sessions_are
-        ∙ ap (λ (st : Stage). built tally st (filter (is_used st.streams) b.book.sessions.list) book.clients.items
-        book.connections.items) stage_is
-        ∙ ap₂ (λ cs ns. with_clients cs (moved (closes gone_clients)
-        (record (state_of datas t b) { connections = ns }))) left same
+        ∙ ap (λ ss. built tally after ss book.clients.items) sessions_are
+        ∙ ap (λ (st : Stage). built tally st (filter (is_used st.streams) b.book.sessions.list) book.clients.items)
+        stage_is
+        ∙ ap₂ (λ ns qs. with_clients book.clients.items (moved (closes gone_clients)
+        (record (state_of datas t b) { connections = ns; notices = qs }))) same told
+        ∙ ap (λ cs. with_clients cs (moved (closes gone_clients)
+        (record (state_of datas t b) { connections = connections; notices = notices }))) left
 
   -- the stores took these steps
   pub leaving_made : (given : Option E) (stays : (a : E) → moves a [] a) (client : ℕ) →

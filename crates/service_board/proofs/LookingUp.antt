@@ -1,10 +1,11 @@
 -- What the look-ups find on a board, and which rows refuse where they find nothing.
 use Rattle.std.proofs.Common.{◌≡◌, ℕ, ◌==◌, List, ◌++◌, Option, Some, None, refl, sym, ap, ◌∙◌, eqb-true}
-use Rattle.std.proofs.Common.{if◌then◌else◌, is_none, get_or, subst, not, Bool, true, false}
+use Rattle.std.proofs.Common.{if◌then◌else◌, is_none, get_or, subst, not, Bool, true, false, Result, Ok, Err}
+use Rattle.std.proofs.Common.{IfErr, IfOk}
 use Rattle.std.specs.Option.{option_map}
 use Rattle.std.specs.List.{All, find, list_any, position}
 use Rattle.std.proofs.lemmas.Bool.{and_parts}
-use Rattle.std.proofs.lemmas.Option.{get_or_from_slice_get}
+use Rattle.std.proofs.lemmas.Option.{get_or_from_slice_get, none-some, same_Some}
 use Rattle.ca_base.specs.declared.codes.Hr.{Hr}
 use Rattle.ca_base.specs.declared.codes.TheConstants.Hr as hr
 use Rattle.ca_base.specs.declared.ids.Gate.{Gate}
@@ -13,24 +14,18 @@ use Rattle.ca_base.specs.declared.ids.Reason.{Reason}
 use Rattle.ca_base.specs.declared.ids.Reason.TheVariants as the
 use Rattle.ca_base.specs.Rows.{Row, first}
 use Rattle.client_state.specs.Rows.{gate_rows}
-use Rattle.ca_stage.specs.Stage.{BufferData}
+use Rattle.ca_stage.specs.Stage.{BufferData, no_data}
 use Rattle.ca_stage.specs.Moves.{stream_at}
-use Rattle.ca_stage.specs.Tally.{Tally}
+use Rattle.ca_stage.specs.Tally.{Tally, no_tally}
 use Rattle.ca_machine.specs.State.{State, is_client_of, is_connection}
-use Rattle.ca_machine.specs.SharedRows.{client_rows, control_rows, stream_rows}
+use Rattle.ca_machine.specs.SharedRows.{client_rows, connection_rows, control_rows, shut_rows, stream_rows}
 use Rattle.period_engine.specs.declared.entry.StreamEntry.{StreamEntry}
 use Rattle.period_engine.specs.Entries.{stream_of}
 use Rattle.service_board.specs.Board.{state_of}
 use Rattle.service_board.specs.InOrder.{IsOwned}
-use Rattle.service_board.specs.Lookups.{
-  FindsClient,
-  FindsStream,
-  Says,
-  client_call_rows,
-  is_entry_of,
-  stream_call_rows,
-}
+use Rattle.service_board.specs.Lookups.{FindsClient, FindsStream, Says, client_call_rows, client_control_rows, is_entry_of, stream_call_rows}
 use Rattle.service_board.specs.declared.board.Board.{Board}
+use Rattle.service_board.proofs.Rows.{row_fails}
 use Rattle.service_board.proofs.Finding.{FoundAt, found_at, none_at, find_mapped, first_front, first_later}
 
 -- rows that come first refuse, whatever comes behind them
@@ -63,7 +58,7 @@ module _ {D E : Type 0} (b : Board D E) (conn client : ℕ) where
         found = f.found;
         client_is = eqb-true f.member.client.0 client parts.0;
         conn_is = conn_is;
-        says = says_later b (control_rows conn) (client_rows conn client) None
+        says = says_later b (connection_rows conn) (client_rows conn client) None
             (λ datas tally. ap (λ v. if not v then Some hr.E_HANDLE else None)
             (sym (ap (λ n. list_any (is_connection n) b.book.connections.items) conn_is) ∙ own))
             (λ datas tally. ap (λ o. if is_none o then Some hr.E_HANDLE else None) f.found);
@@ -81,6 +76,50 @@ module _ {D E : Type 0} (b : Board D E) (conn client : ℕ) where
       either : (v : Bool) → (if not v then Some hr.E_HANDLE else Some hr.E_HANDLE) ≡ Some hr.E_HANDLE
       either true = refl
       either false = refl
+
+-- whether the service runs
+pub runs_by : {D E : Type 0} (b : Board D E) → Says b shut_rows None → b.book.is_shut ≡ false
+runs_by b says = (row_fails b.book.is_shut hr.SERVICE_NOT_RUNNING None (says (λ n. no_data) no_tally)).0
+
+pub shut_by : {D E : Type 0} (b : Board D E) (code : Hr) → Says b shut_rows (Some code) →
+    (b.book.is_shut ≡ true) × (code ≡ hr.SERVICE_NOT_RUNNING)
+shut_by b code says = by b.book.is_shut (says (λ n. no_data) no_tally)
+  where
+    by : (v : Bool) → (if v then Some hr.SERVICE_NOT_RUNNING else None) ≡ Some code →
+        (v ≡ true) × (code ≡ hr.SERVICE_NOT_RUNNING)
+    by true h = (refl, sym (same_Some hr.SERVICE_NOT_RUNNING code h))
+    by false h = absurd (none-some code h)
+
+-- a service that runs has the rows of its calls without that of a shutdown, and no row of a control call holds on one
+-- that was shut down
+module _ {D E : Type 0} (b : Board D E) (conn client : ℕ) where
+  pub running_says : (verdict : Option Hr) → b.book.is_shut ≡ false → Says b (client_call_rows conn client) verdict →
+      Says b (client_control_rows conn client) verdict
+  running_says verdict runs says datas tally =
+      let connected = list_any (is_connection conn) b.book.connections.items in
+      let unknown = is_none (find (is_client_of conn client) b.book.clients.items) in
+      ap (λ v.
+      if not connected then Some hr.E_HANDLE
+      else if v then Some hr.SERVICE_NOT_RUNNING else if unknown then Some hr.E_HANDLE else None) runs
+      ∙ says datas tally
+
+  pub connected_runs : Says b (control_rows conn) None → b.book.is_shut ≡ false
+  connected_runs says =
+      let connected = list_any (is_connection conn) b.book.connections.items in
+      (row_fails b.book.is_shut hr.SERVICE_NOT_RUNNING None
+      (row_fails (not connected) hr.E_HANDLE _ (says (λ n. no_data) no_tally)).1).0
+
+  -- what a look-up of the client tells of a control call
+  pub control_refused : b.book.is_shut ≡ false → (r : Result ℕ Hr) →
+      IfErr r (λ code. Says b (client_call_rows conn client) (Some code)) →
+      IfErr r (λ code. Says b (client_control_rows conn client) (Some code))
+  control_refused runs (Ok at) h = h
+  control_refused runs (Err code) h = running_says (Some code) runs h
+
+  pub control_found : b.book.is_shut ≡ false → (r : Result ℕ Hr) → IfOk r (FindsClient conn client b) →
+      IfOk r (λ at. FindsClient conn client b at × Says b (client_control_rows conn client) None)
+  control_found runs (Ok at) h = (h, running_says None runs h.says)
+  control_found runs (Err code) h = h
 
 -- the stream of an entry that was found, and that there is none
 pub stream_there : {D E : Type 0} (b : Board D E) (client : ℕ) (e : StreamEntry E) →
@@ -116,10 +155,10 @@ gate_is_open gate.Open e = refl
 gate_is_open (gate.Closed reason) e = absurd (closed_tells reason e)
 
 -- a call's stream, and that there is none, or a closed one
-module _ {D E : Type 0} (b : Board D E) (conn client : ℕ) (known : Says b (client_call_rows conn client) None) where
+module _ {D E : Type 0} (b : Board D E) (conn client : ℕ) (known : Says b (client_control_rows conn client) None) where
   pub unknown_stream : None ≡ position (is_entry_of client) b.entries.items →
       Says b (stream_call_rows conn client) (Some hr.NOT_INITIALIZED)
-  unknown_stream e = says_later b (client_call_rows conn client) (λ st. stream_rows (stream_at client st.stage))
+  unknown_stream e = says_later b (client_control_rows conn client) (λ st. stream_rows (stream_at client st.stage))
       (Some hr.NOT_INITIALIZED) known
       (λ datas tally. ap (λ o. first (stream_rows o))
       (no_stream b client (none_at (is_entry_of client) b.entries.items e) datas tally))
@@ -134,7 +173,7 @@ module _ {D E : Type 0} (b : Board D E) (conn client : ℕ) (known : Says b (cli
       Some code ≡ first (gate_rows e.gate) → Says b (stream_call_rows conn client) (Some code)
   closed_stream at e code there read gated =
       let f = found_at (is_entry_of client) b.entries.items at there in
-      says_later b (client_call_rows conn client) (λ st. stream_rows (stream_at client st.stage)) (Some code) known
+      says_later b (client_control_rows conn client) (λ st. stream_rows (stream_at client st.stage)) (Some code) known
       (stream_says b client f.member (Some code) f.found
       (ap (λ x. first (gate_rows x.gate)) (read_entry at e f read) ∙ sym gated))
 
@@ -151,7 +190,7 @@ module _ {D E : Type 0} (b : Board D E) (conn client : ℕ) (known : Says b (cli
         here = f.here;
         client_is = eqb-true f.member.client.0 client f.passes;
         opens = gate_is_open f.member.gate opens;
-        says = says_later b (client_call_rows conn client) (λ st. stream_rows (stream_at client st.stage)) None known
+        says = says_later b (client_control_rows conn client) (λ st. stream_rows (stream_at client st.stage)) None known
             (stream_says b client f.member None f.found opens);
         found = stream_there b client f.member f.found;
       }

@@ -3,10 +3,11 @@ use Rattle.std.proofs.Common.{◌≡◌, ◌≤◌, nat_eq, [], map, refl, sym, 
 use Rattle.std.specs.List.{All, AllZip, IsDistinct}
 use Rattle.std.specs.Vec.{vec_capacity}
 use Rattle.std.proofs.lemmas.List.Elements.{All-nil}
-use Rattle.ca_base.specs.declared.limits.TheConstants.{CLIENTS, ENDPOINTS}
+use Rattle.ca_base.specs.declared.limits.TheConstants.{CLIENTS, ENDPOINTS, NOTICES}
 use Rattle.buffer_ring.specs.declared.step.EndState.{EndState}
 use Rattle.ca_stage.specs.Order.{RisesFrom}
 use Rattle.ca_machine.specs.State.{live_clients}
+use Rattle.device_registry.specs.Endpoints.{EndpointList}
 use Rattle.period_engine.specs.Entries.{AreInOrder, IsRested}
 use Rattle.service_board.specs.InOrder.{Belongs, HasLevels, IsBook, IsOpen, IsOwned, Seats}
 use Rattle.service_board.specs.New.{IsEmptyBook, IsNewBoard}
@@ -26,26 +27,27 @@ empty_book b empty = record {
   few_clients = rw empty.clients (omega arith);
   made = subst (All (λ c. c.client.0 ≤ b.clients_made)) (sym empty.clients) (All-nil _);
   clients_made = rw empty.clients_made (omega arith);
-  endpoints = subst (λ xs. RisesFrom 0 (map (λ e. e.endpoint.0) xs)) (sym empty.endpoints) tt;
-  added = subst (All (λ e. e.endpoint.0 ≤ b.last_endpoint)) (sym empty.endpoints) (All-nil _);
+  endpoints = subst (λ (r : EndpointList). RisesFrom 0 (map (λ e. e.no.0) r.list)) (sym empty.registry) tt;
+  added = subst (λ (r : EndpointList). All (λ e. e.no.0 ≤ r.last) r.list) (sym empty.registry) (All-nil _);
   levels = subst (All HasLevels) (sym empty.clients) (All-nil _);
   owned = subst (All (IsOwned b.connections.items)) (sym empty.clients) (All-nil _);
 }
 
 pub new_board : {D E : Type 0} (state : E → EndState) (b : Board D E) → IsEmptyBook b.book → b.seats.items ≡ [] →
     b.entries.items ≡ [] → ENDPOINTS ≤ vec_capacity b.seats → CLIENTS ≤ vec_capacity b.entries →
-    IsNewBoard state b.devices b
-new_board state b empty seats entries seat_room room = record {
+    NOTICES ≤ vec_capacity b.drafts → IsNewBoard state b.devices b
+new_board state b empty seats entries seat_room room draft_room = record {
   order = record {
     order = subst AreInOrder (sym entries) tt;
     rested = subst (All (IsRested state)) (sym entries) (All-nil _);
     belong = subst (All (Belongs b.book b.seats.items)) (sym entries) (All-nil _);
     seats =
-        subst (λ xs. AllZip Seats xs b.book.endpoints.items) (sym seats)
-        (subst (AllZip Seats []) (sym empty.endpoints) tt);
+        subst (λ xs. AllZip Seats xs b.book.registry.list) (sym seats)
+        (subst (λ (r : EndpointList). AllZip Seats [] r.list) (sym empty.registry) tt);
     book = empty_book b.book empty;
     room = room;
     seat_room = seat_room;
+    draft_room = draft_room;
   };
   devices_are = refl;
   entries = entries;
@@ -54,9 +56,11 @@ new_board state b empty seats entries seat_room room = record {
     entries,
     empty.connections,
     empty.clients,
-    empty.endpoints,
+    empty.registry,
+    empty.choices,
+    empty.notices,
+    empty.shut,
     empty.sessions,
-    empty.last_endpoint,
     empty.clients_made,
   ) refl;
 }

@@ -16,21 +16,12 @@ use Rattle.ca_stage.specs.Moves.{after_move, as_opened, opened}
 use Rattle.ca_stage.specs.Tally.{Tally}
 use Rattle.ca_stage.proofs.StreamPlaces.{opened_in_place}
 use Rattle.session_manager.specs.Sessions.{joined, number_joined}
-use Rattle.ca_machine.specs.declared.state.Endpoint.{Endpoint}
-use Rattle.ca_machine.specs.State.{State, client_of, is_endpoint, session_list, with_sessions}
+use Rattle.device_registry.specs.declared.endpoint.Endpoint.{Endpoint}
+use Rattle.ca_machine.specs.State.{State, client_of, session_list, with_sessions}
+use Rattle.device_registry.specs.Endpoints.{is_endpoint}
 use Rattle.ca_machine.specs.Plan.{Outcome}
 use Rattle.ca_machine.specs.View.{AnswersBy, Outside, outside}
-use Rattle.ca_machine.specs.Streams.{
-  endpoint_channels,
-  initialize_rows,
-  initialized,
-  is_kept,
-  joined_by,
-  new_stream,
-  opened_in,
-  session_key,
-  shared_buffer,
-}
+use Rattle.ca_machine.specs.Streams.{endpoint_channels, initialize_rows, initialized, is_kept, joined_by, new_stream, opened_in, session_key, shared_buffer}
 use Rattle.period_engine.specs.declared.entry.StreamEntry.{StreamEntry}
 use Rattle.period_engine.specs.Entries.{stream_of}
 use Rattle.service_board.specs.Board.{book_state, stage_with, state_of}
@@ -44,15 +35,7 @@ use Rattle.service_board.specs.declared.opening.OpeningPlan.{OpeningPlan}
 use Rattle.service_board.proofs.Doing.{made_still}
 use Rattle.service_board.proofs.Memory.{answers_found, answers_out_of_memory}
 use Rattle.service_board.proofs.Planning.{key_is}
-use Rattle.service_board.proofs.Places.{
-  Splits,
-  map_insert,
-  no_store,
-  other_store,
-  own_store,
-  streams_above,
-  streams_below,
-}
+use Rattle.service_board.proofs.Places.{Splits, map_insert, no_store, other_store, own_store, streams_above, streams_below}
 
 module _ {D E : Type 0} (x : Asked) (old : Board D E) (plan : OpeningPlan) (p : Plans x old plan) where
   -- a stream by what was found of it
@@ -113,7 +96,7 @@ module _ {D E : Type 0} (x : Asked) (old : Board D E) (plan : OpeningPlan) (p : 
 
     channels_found : endpoint_channels before p.named ≡ plan.format.channels
     channels_found =
-        ap (λ n. option_map_or (λ (e : Endpoint). e.format.channels) (find (is_endpoint n) old.book.endpoints.items) 0)
+        ap (λ n. option_map_or (λ (e : Endpoint). e.format.channels) (find (is_endpoint n) old.book.registry.list) 0)
         p.on
         ∙ ap (λ o. option_map_or (λ (e : Endpoint). e.format.channels) o 0) p.there
         ∙ sym p.format.channels

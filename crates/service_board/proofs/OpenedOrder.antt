@@ -8,7 +8,7 @@ use Rattle.std.proofs.lemmas.List.Elements.{All-from_recursion, recursion_from_A
 use Rattle.std.proofs.lemmas.Bool.{true≢false}
 use Rattle.std.proofs.lemmas.Option.{none-some, same_Some}
 use Rattle.ca_base.specs.declared.ids.SessionNo.{SessionNo}
-use Rattle.ca_base.specs.declared.limits.TheConstants.{CLIENTS, ENDPOINTS, MAX_CONNECTION_NAME}
+use Rattle.ca_base.specs.declared.limits.TheConstants.{CLIENTS, ENDPOINTS, MAX_CONNECTION_NAME, NOTICES}
 use Rattle.volume_stack.specs.Scaling.{unit_gain}
 use Rattle.buffer_ring.specs.declared.step.EndState.{EndState}
 use Rattle.session_manager.specs.declared.session.SessionKey.{SessionKey}
@@ -80,7 +80,7 @@ book_joined old sessions o = record {
   rooms = record {
     connections = o.rooms.connections;
     clients = o.rooms.clients;
-    endpoints = o.rooms.endpoints;
+    notices = o.rooms.notices;
   };
   apart = o.apart;
   opens = o.opens;
@@ -100,13 +100,10 @@ belongs_joined old sessions seats e b = record {
   client = b.client;
   live = b.live;
   on = b.on;
-  endpoint = b.endpoint;
-  there = b.there;
-  channels = b.channels;
+  opens = b.opens;
   within = b.within;
   gains = λ t. absurd (true≢false t);
   renders = b.renders;
-  position = b.position;
 }
 
 -- the name of a session that a stream joins fits: it is that of an open connection, or one byte
@@ -196,14 +193,12 @@ module _ {D E : Type 0} (state : E → EndState) (x : Asked) (old : Board D E) (
     live =
         found_live x.conn.0 x.client.0 0 old.book.clients.items p.named order.book.clients p.found p.client_is;
     on = p.on;
-    endpoint = p.endpoint;
-    there = p.there;
-    channels = p.format.channels;
+    opens = λ unclosed.
+        record { endpoint = p.endpoint; there = p.there; fits = p.format.channels; behind = omega arith };
     within = All-from_recursion (λ gain. gain ≤ unit_gain) entry.gains
         (omega arith, (omega arith, (omega arith, (omega arith, tt))));
     gains = λ t. absurd (true≢false t);
     renders = refl;
-    position = omega arith;
   }
 
   all_belong : (sessions : SessionList) →
@@ -217,9 +212,10 @@ module _ {D E : Type 0} (state : E → EndState) (x : Asked) (old : Board D E) (
       (recursion_from_All (Belongs old.book old.seats.items) old.entries.items order.belong)) (new_belongs sessions))
 
   pub opened_order : (new : Board D E) → IsNewStore state plan.buffer store → new.seats ≡ old.seats →
-      Joins x plan old.book session new.book → new.entries.items ≡ insert old.entries.items at entry →
-      vec_capacity old.entries ≤ vec_capacity new.entries → InOrder state new
-  opened_order new is seats j items more = record {
+      new.drafts ≡ old.drafts → Joins x plan old.book session new.book →
+      new.entries.items ≡ insert old.entries.items at entry → vec_capacity old.entries ≤ vec_capacity new.entries →
+      InOrder state new
+  opened_order new is seats drafts j items more = record {
     order = subst AreInOrder (sym items) numbers_rise;
     rested =
         subst (All (IsRested state)) (sym items)
@@ -232,9 +228,10 @@ module _ {D E : Type 0} (state : E → EndState) (x : Asked) (old : Board D E) (
         (subst (λ k. All (Belongs k old.seats.items) (insert old.entries.items at entry)) (sym j.rest)
         (all_belong new.book.sessions)));
     seats =
-        subst (λ ss. AllZip Seats ss new.book.endpoints.items) (ap (λ v. v.items) (sym seats))
-        (subst (λ (b : Book). AllZip Seats old.seats.items b.endpoints.items) (sym j.rest) order.seats);
+        subst (λ ss. AllZip Seats ss new.book.registry.list) (ap (λ v. v.items) (sym seats))
+        (subst (λ (b : Book). AllZip Seats old.seats.items b.registry.list) (sym j.rest) order.seats);
     book = subst IsBook (sym j.rest) (book_joined old.book new.book.sessions order.book);
     room = let room = order.room in omega arith;
     seat_room = subst (λ v. ENDPOINTS ≤ vec_capacity v) (sym seats) order.seat_room;
+    draft_room = subst (λ v. NOTICES ≤ vec_capacity v) (sym drafts) order.draft_room;
   }

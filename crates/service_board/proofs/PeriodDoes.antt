@@ -1,18 +1,16 @@
 -- A period on a board is the machine's period.
-use Rattle.std.proofs.Common.{◌≡◌, ℕ, zero, suc, ◌<◌, ◌≤◌, ◌==◌, List, [], ◌∷◌, length, map, Bool, true, false}
+use Rattle.std.proofs.Common.{◌≡◌, ℕ, ◌<◌, ◌≤◌, ◌==◌, List, [], ◌∷◌, length, map, Bool, true, false}
 use Rattle.std.proofs.Common.{Option, Some}
-use Rattle.std.proofs.Common.{eq-eqb, None, refl, sym, ap, ap₂, ◌∙◌, subst, arith, if◌then◌else◌, slice_get, slice_set}
+use Rattle.std.proofs.Common.{None, refl, sym, ap, ap₂, ◌∙◌, subst, arith, if◌then◌else◌, slice_get}
 use Rattle.std.specs.Prelude.{slice_index}
 use Rattle.std.specs.List.{AllZip}
 use Rattle.std.specs.Option.{option_map}
 use Rattle.std.proofs.lemmas.Bool.{true≢false}
-use Rattle.std.proofs.lemmas.Bool.Decides.{nat_tests}
-use Rattle.std.proofs.lemmas.Option.{none-some, same_Some, slice_get-map}
+use Rattle.std.proofs.lemmas.Option.{slice_get-map}
 use Rattle.std.proofs.lemmas.List.Elements.{All-from_recursion, All-get_or, All-take}
 use Rattle.device_io.specs.DeviceLog.{DeviceLog, add_all}
 use Rattle.ca_base.specs.declared.codes.TheConstants.Hr as hr
 use Rattle.ca_base.specs.declared.ids.Reason.TheVariants.{Removal}
-use Rattle.ca_base.specs.declared.values.TheConstants.{STATE_NOTPRESENT}
 use Rattle.ca_base.specs.Rows.{first}
 use Rattle.volume_stack.specs.Scaling.{unit_gain}
 use Rattle.buffer_ring.specs.declared.step.EndState.{EndState}
@@ -26,12 +24,11 @@ use Rattle.ca_stage.proofs.Lists.{all_of, map_alike, map_map}
 use Rattle.ca_stage.proofs.MapPeriods.{mixed_at_sound}
 use Rattle.ca_stage.proofs.Periods.{period_by}
 use Rattle.ca_stage.proofs.SubSteps.{plays_on as plays_open_on}
-use Rattle.ca_machine.specs.declared.state.Endpoint.{Endpoint}
+use Rattle.device_registry.specs.declared.endpoint.Endpoint.{Endpoint}
 use Rattle.ca_machine.specs.State.{State, empty_state}
 use Rattle.ca_machine.specs.Plan.{Answer, IsWriting, pieces}
 use Rattle.ca_machine.specs.Plan as plan
 use Rattle.ca_machine.specs.Periods.{bytes_due, mixing_of, period_frames, period_of, period_payload, period_plan}
-use Rattle.ca_machine.specs.Periods.{with_failed}
 use Rattle.ca_machine.specs.Periods as machine
 use Rattle.ca_machine.specs.View.{AnswersBy, outside}
 use Rattle.period_engine.specs.Agreement.{AllAgree}
@@ -89,7 +86,7 @@ plays_alike m false s =
 -- ---- the playheads, and the endpoints
 
 pub seat_numbers : (seats : List Seat) (endpoints : List Endpoint) → AllZip Seats seats endpoints →
-    map (λ (e : Playhead). e.number) (map playhead_of seats) ≡ map (λ (e : Endpoint). e.endpoint.0) endpoints
+    map (λ (e : Playhead). e.number) (map playhead_of seats) ≡ map (λ (e : Endpoint). e.no.0) endpoints
 seat_numbers [] [] h = refl
 seat_numbers (s ∷ seats) (e ∷ endpoints) h = ap₂ (λ n ns. n ∷ ns) h.0.number (seat_numbers seats endpoints h.1)
 seat_numbers [] (e ∷ endpoints) h = absurd h
@@ -98,44 +95,6 @@ seat_numbers (s ∷ seats) [] h = absurd h
 pub get_mapped : {X Y : Type 0} (f : X → Y) (xs : List X) (at : ℕ) (x : X) → slice_get xs at ≡ Some x →
     slice_get (map f xs) at ≡ Some (f x)
 get_mapped f xs at x h = slice_get-map f xs at ∙ ap (option_map f) h
-
--- endpoints of greater numbers stay
-above_stay : (n low : ℕ) (endpoints : List Endpoint) → n < low → RisesFrom low (map (λ e. e.endpoint.0) endpoints) →
-    with_failed n endpoints ≡ endpoints
-above_stay n low [] lt rises = refl
-above_stay n low (e ∷ endpoints) lt rises =
-    let above = rises.0 in
-    let other : (e.endpoint.0 == n) ≡ false = grind (arith, nat_tests) in
-    ap₂ (λ x xs. x ∷ xs) (ap (λ b. if b then record e { state = STATE_NOTPRESENT } else e) other)
-    (above_stay n (suc e.endpoint.0) endpoints (omega arith) rises.1)
-
-number_above : (low at : ℕ) (endpoints : List Endpoint) (e : Endpoint) →
-    RisesFrom low (map (λ e. e.endpoint.0) endpoints) → slice_get endpoints at ≡ Some e → low ≤ e.endpoint.0
-number_above low at [] e rises here = absurd (none-some e here)
-number_above low zero (x ∷ endpoints) e rises here =
-    subst (λ (y : Endpoint). low ≤ y.endpoint.0) (same_Some x e here) rises.0
-number_above low (suc at) (x ∷ endpoints) e rises here =
-    let rest = number_above (suc x.endpoint.0) at endpoints e rises.1 here in
-    let first = rises.0 in
-    omega arith
-
--- the endpoint at a place is the one that failed
-pub failed_in_place : (low n at : ℕ) (endpoints : List Endpoint) (e : Endpoint) →
-    RisesFrom low (map (λ e. e.endpoint.0) endpoints) → slice_get endpoints at ≡ Some e → e.endpoint.0 ≡ n →
-    slice_set endpoints at (record e { state = STATE_NOTPRESENT }) ≡ with_failed n endpoints
-failed_in_place low n at [] e rises here number = absurd (none-some e here)
-failed_in_place low n zero (x ∷ endpoints) e rises here number =
-    let same = same_Some x e here in
-    let own : x.endpoint.0 ≡ n = ap (λ (y : Endpoint). y.endpoint.0) same ∙ number in
-    ap₂ (λ y ys. y ∷ ys)
-    (ap (λ (y : Endpoint). record y { state = STATE_NOTPRESENT }) (sym same)
-    ∙ ap (λ b. if b then record x { state = STATE_NOTPRESENT } else x) (sym (eq-eqb x.endpoint.0 n own)))
-    (sym (above_stay n (suc x.endpoint.0) endpoints (omega arith) rises.1))
-failed_in_place low n (suc at) (x ∷ endpoints) e rises here number =
-    let above = number_above (suc x.endpoint.0) at endpoints e rises.1 here in
-    let other : (x.endpoint.0 == n) ≡ false = grind (arith, nat_tests) in
-    ap₂ (λ y ys. y ∷ ys) (ap (λ b. if b then record x { state = STATE_NOTPRESENT } else x) (sym other))
-    (failed_in_place (suc x.endpoint.0) n at endpoints e rises.1 here number)
 
 -- ---- the gains of the endpoint
 
@@ -173,7 +132,7 @@ payload_alike before st e false = refl
 module _ {D E : Type 0} (faults : D → ℕ) (told : D → Option (List DeviceLog)) (moves : E → List Step → E → Type 0)
     (state : E → EndState) (b new : Board D E) (order : InOrder state b) (number at : ℕ) (due : FindsDue number b at)
     (whole : Bool)
-    (plays : Plays moves due.active.endpoint.endpoint.0 (period_frames due.active.endpoint)
+    (plays : Plays moves due.active.endpoint.no.0 (period_frames due.active.endpoint)
     (end_gains due.active.endpoint.format.channels) whole b.entries.items new.entries.items (faults b.devices)
     (told b.devices) (faults new.devices) (told new.devices))
   where
@@ -197,7 +156,7 @@ module _ {D E : Type 0} (faults : D → ℕ) (told : D → Option (List DeviceLo
       abbrev its_mixing : Mixing
       its_mixing = mixing_of (state_of datas tally b) its_endpoint
 
-      mixes : MixesThese its_mixing its_endpoint.endpoint.0 (period_frames its_endpoint)
+      mixes : MixesThese its_mixing its_endpoint.no.0 (period_frames its_endpoint)
           (end_gains its_endpoint.format.channels) b.entries.items
       mixes = record {
         endpoint = refl;
@@ -223,18 +182,18 @@ module _ {D E : Type 0} (faults : D → ℕ) (told : D → Option (List DeviceLo
       streams_are : streams_of datas_after new.entries.items
           ≡ map (its_map its_mixing whole) (streams_of datas b.entries.items)
       streams_are =
-          sym (streams_went moves (plays_on its_endpoint.endpoint.0 (period_frames its_endpoint) whole) plays.steps
+          sym (streams_went moves (plays_on its_endpoint.no.0 (period_frames its_endpoint) whole) plays.steps
           datas
           datas_after b.entries.items new.entries.items plays.went agree
           (are_after plays.steps b.entries.items datas order.order))
-          ∙ map_alike (plays_on its_endpoint.endpoint.0 (period_frames its_endpoint) whole) (its_map its_mixing whole)
+          ∙ map_alike (plays_on its_endpoint.no.0 (period_frames its_endpoint) whole) (its_map its_mixing whole)
           (streams_of datas b.entries.items) (all_of _ (plays_alike its_mixing whole)
           (streams_of datas b.entries.items))
 
     module _ (fresh : b.book.levels_changed ≡ false)
         (heads : map playhead_of new.seats.items ≡ heads_by any_mixing whole (map playhead_of b.seats.items))
         (book : (stage : Stage) (tally : Tally) → book_state new.book stage tally
-        ≡ machine.after_period its_endpoint.endpoint.0 whole (book_state b.book stage tally))
+        ≡ machine.after_period its_endpoint.no.0 whole (book_state b.book stage tally))
         (payload : List ℕ) (payload_is : payload ≡ period_payload any_mixing whole)
       where
         module _ (datas : ℕ → BufferData) (tally : Tally) (agree : AllAgree plays.steps datas b.entries.items) where
@@ -260,7 +219,7 @@ module _ {D E : Type 0} (faults : D → ℕ) (told : D → Option (List DeviceLo
               ∙ sym (period_by mixing (stage_by datas) (rises datas) whole)
 
           state_is : state_of data_then tally_then new
-              ≡ machine.after_period its_endpoint.endpoint.0 whole (plan.moved sub_moves (state_of datas tally b))
+              ≡ machine.after_period its_endpoint.no.0 whole (plan.moved sub_moves (state_of datas tally b))
           state_is =
               ap (λ stage. book_state new.book stage tally_then) stage_is
               ∙ book (after_moves (stage_by datas) sub_moves) tally_then
@@ -286,14 +245,14 @@ module _ {D E : Type 0} (faults : D → ℕ) (told : D → Option (List DeviceLo
               (payload_is
               ∙ payload_alike empty_state st its_endpoint whole
               ∙ ap (period_payload mixing) (sym is_w))
-              (state_is ∙ ap (λ w. machine.after_period its_endpoint.endpoint.0 w
+              (state_is ∙ ap (λ w. machine.after_period its_endpoint.no.0 w
               (plan.moved (sub_steps mixing w (stage_by datas)) st)) (sym is_w))
               (record {
                 tells =
                     plays.offers.tells
                     ∙ ap (λ ps. option_map (add_all ps) (told b.devices))
-                    (sym (pieces_are its_endpoint.endpoint.0 plays.bytes counts whole)
-                    ∙ ap (λ bs. pieces its_endpoint.endpoint.0 bs given) bytes);
+                    (sym (pieces_are its_endpoint.no.0 plays.bytes counts whole)
+                    ∙ ap (λ bs. pieces its_endpoint.no.0 bs given) bytes);
                 counts = faults_rise counts whole (faults b.devices) (faults new.devices) plays.offers.rises;
               })
 
@@ -301,7 +260,7 @@ module _ {D E : Type 0} (faults : D → ℕ) (told : D → Option (List DeviceLo
         period_does = record {
           steps = plays.steps;
           made = λ client.
-              all_made moves (plays_on its_endpoint.endpoint.0 (period_frames its_endpoint) whole) plays.steps None
+              all_made moves (plays_on its_endpoint.no.0 (period_frames its_endpoint) whole) plays.steps None
               b.entries.items new.entries.items plays.went client (plays.none client);
           does = λ datas tally agree knows. record {
             tally = tally_then datas tally agree;

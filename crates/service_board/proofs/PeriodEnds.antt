@@ -1,14 +1,11 @@
 -- The board after a period, whose device took all or failed.
 use Rattle.std.proofs.Common.{◌≡◌, ℕ, ◌+◌, ◌*◌, ◌≤◌, List, [], ◌∷◌, ◌++◌, length, map, Bool, true, false, Option}
-use Rattle.std.proofs.Common.{Some, None}
+use Rattle.std.proofs.Common.{None}
 use Rattle.std.proofs.Common.{refl, sym, ap, ap₂, ◌∙◌, subst, arith, get_or, if◌then◌else◌, slice_set}
 use Rattle.std.specs.Int.{w32, to_le_bytes}
-use Rattle.std.specs.List.{All, find}
-use Rattle.std.specs.Option.{option_map}
+use Rattle.std.specs.List.{All, AllZip}
 use Rattle.std.specs.Vec.{with_item, with_items}
 use Rattle.std.proofs.lemmas.List.{map-set, with_items_is}
-use Rattle.std.proofs.lemmas.List.Elements.{All-set}
-use Rattle.std.proofs.lemmas.Option.{get_or_from_slice_get}
 use Rattle.std.proofs.Math.Seq.{map-set_same}
 use Rattle.device_io.specs.DeviceLog.{DeviceLog}
 use Rattle.ca_base.specs.declared.codes.TheConstants.Hr as hr
@@ -20,11 +17,12 @@ use Rattle.buffer_ring.specs.declared.step.Step.{Step}
 use Rattle.ca_stage.specs.Moves.{finished, playhead_after}
 use Rattle.ca_stage.specs.Order.{AreDistinct, RisesFrom}
 use Rattle.ca_stage.proofs.Clients.{rising_distinct}
-use Rattle.ca_stage.proofs.Lists.{chosen, find_map}
 use Rattle.ca_stage.proofs.PlayheadPlaces.{head_in_place}
 use Rattle.ca_stage.proofs.Playheads.{numbers_of}
-use Rattle.ca_machine.specs.declared.state.Endpoint.{Endpoint}
-use Rattle.ca_machine.specs.State.{empty_state, is_endpoint}
+use Rattle.device_registry.specs.declared.endpoint.Endpoint.{Endpoint}
+use Rattle.ca_machine.specs.State.{empty_state}
+use Rattle.device_registry.specs.Endpoints.{EndpointList, with_state}
+use Rattle.device_registry.specs.Changes.{with_changed}
 use Rattle.ca_machine.specs.Periods.{mixing_of, period_frames, period_plan, with_failed}
 use Rattle.period_engine.specs.declared.entry.StreamEntry.{StreamEntry}
 use Rattle.period_engine.specs.declared.sounding.Block.{Block}
@@ -32,14 +30,15 @@ use Rattle.period_engine.specs.Entries.{IsRested}
 use Rattle.service_board.specs.Board.{book_state, playhead_of}
 use Rattle.service_board.specs.Does.{AnyData, Does}
 use Rattle.service_board.specs.Due.{FindsDue}
-use Rattle.service_board.specs.InOrder.{InOrder, IsBook, Seats}
+use Rattle.service_board.specs.InOrder.{InOrder, Seats}
 use Rattle.service_board.specs.Plays.{Plays}
 use Rattle.service_board.specs.declared.board.Board.{Board}
 use Rattle.service_board.specs.declared.board.Seat.{Seat}
-use Rattle.service_board.proofs.PeriodDoes.{failed_in_place, get_mapped, period_does, seat_numbers}
-use Rattle.service_board.proofs.PeriodNeeds.{channels_read, end_gains, endpoint_read}
-use Rattle.service_board.proofs.PeriodNeeds.{endpoint_within, frames_read, seat_read}
-use Rattle.service_board.proofs.PeriodOrder.{KeepsFormat, period_order, zip_set, zip_set_seat}
+use Rattle.service_board.proofs.ChangedEndpoints.{book_changed, keeps_format, zip_changed}
+use Rattle.service_board.proofs.PeriodDoes.{get_mapped, period_does, seat_numbers}
+use Rattle.service_board.proofs.PeriodNeeds.{channels_read, end_gains}
+use Rattle.service_board.proofs.PeriodNeeds.{frames_read, seat_read}
+use Rattle.service_board.proofs.PeriodOrder.{period_order, zip_set_seat}
 
 module _ {D E : Type 0} (faults : D → ℕ) (told : D → Option (List DeviceLog)) (moves : E → List Step → E → Type 0)
     (state : E → EndState) (b : Board D E) (order : InOrder state b) (number at : ℕ) (due : FindsDue number b at)
@@ -51,7 +50,7 @@ module _ {D E : Type 0} (faults : D → ℕ) (told : D → Option (List DeviceLo
     pub record Read (xs ws : List (StreamEntry E)) (e : Endpoint) (frames : ℕ) (s : Seat) (block : Block) : Type 0 where
       pub old : xs ≡ b.entries.items
       pub size : length ws ≡ length xs
-      pub endpoint : e ≡ get_or b.book.endpoints.items at e
+      pub endpoint : e ≡ get_or b.book.registry.list at e
       pub frames_are : frames ≡ period_frames e
       pub seat : s ≡ get_or b.seats.items at s
       pub block_is : block ≡ s.block
@@ -75,17 +74,17 @@ module _ {D E : Type 0} (faults : D → ℕ) (told : D → Option (List DeviceLo
         entries_are : (with_items b.entries ws).items ≡ ws
         entries_are = with_items_is b.entries ws (read.size ∙ ap length read.old ∙ sym b.entries.ok.0)
 
-        plays_here : Plays moves here.endpoint.0 (period_frames here) (end_gains here.format.channels) whole
+        plays_here : Plays moves here.no.0 (period_frames here) (end_gains here.format.channels) whole
             b.entries.items
             (with_items b.entries ws).items (faults b.devices) (told b.devices) (faults devices) (told devices)
         plays_here =
-            subst (λ ys. Plays moves here.endpoint.0 (period_frames here) (end_gains here.format.channels) whole
+            subst (λ ys. Plays moves here.no.0 (period_frames here) (end_gains here.format.channels) whole
             b.entries.items ys (faults b.devices) (told b.devices) (faults devices) (told devices)) (sym entries_are)
-            (subst (λ zs. Plays moves here.endpoint.0 (period_frames here) (end_gains here.format.channels) whole zs ws
+            (subst (λ zs. Plays moves here.no.0 (period_frames here) (end_gains here.format.channels) whole zs ws
             (faults b.devices) (told b.devices) (faults devices) (told devices)) read.old
-            (subst (λ n. Plays moves here.endpoint.0 (period_frames here) (end_gains n) whole xs ws (faults b.devices)
+            (subst (λ n. Plays moves here.no.0 (period_frames here) (end_gains n) whole xs ws (faults b.devices)
             (told b.devices) (faults devices) (told devices)) (channels_here xs ws e frames s block read)
-            (subst (λ n. Plays moves here.endpoint.0 n (end_gains e.format.channels) whole xs ws (faults b.devices)
+            (subst (λ n. Plays moves here.no.0 n (end_gains e.format.channels) whole xs ws (faults b.devices)
             (told b.devices)
             (faults devices) (told devices)) (frames_here xs ws e frames s block read)
             (subst (λ n. Plays moves n frames (end_gains e.format.channels) whole xs ws (faults b.devices)
@@ -98,7 +97,7 @@ module _ {D E : Type 0} (faults : D → ℕ) (told : D → Option (List DeviceLo
         seat_is : s ≡ due.seat
         seat_is = seat_read state b order number at due s read.seat
 
-        seat_fits : (x : Endpoint) (next : ℕ) → x.endpoint ≡ here.endpoint → x.format ≡ here.format → next ≤ MAX_COUNT →
+        seat_fits : (x : Endpoint) (next : ℕ) → x.no ≡ here.no → x.format ≡ here.format → next ≤ MAX_COUNT →
             Seats (record { endpoint = s.endpoint; next = next; block = block }) x
         seat_fits x next endpoint format le = record {
           number = ap (λ (t : Seat). t.endpoint.0) seat_is ∙ due.seats.number ∙ ap (λ n. n.0) (sym endpoint);
@@ -113,7 +112,7 @@ module _ {D E : Type 0} (faults : D → ℕ) (told : D → Option (List DeviceLo
         distinct : AreDistinct (numbers_of (map playhead_of b.seats.items))
         distinct =
             rising_distinct 0 _
-            (subst (RisesFrom 0) (sym (seat_numbers b.seats.items b.book.endpoints.items order.seats))
+            (subst (RisesFrom 0) (sym (seat_numbers b.seats.items b.book.registry.list order.seats))
             order.book.endpoints)
 
     -- the device took all
@@ -129,9 +128,10 @@ module _ {D E : Type 0} (faults : D → ℕ) (told : D → Option (List DeviceLo
           book = b.book;
           seats = with_item b.seats at (record { endpoint = s.endpoint; next = s.next + frames; block = block });
           entries = with_items b.entries ws;
+          drafts = b.drafts;
         }
 
-        abbrev plays_whole : Plays moves here.endpoint.0 (period_frames here) (end_gains here.format.channels) true
+        abbrev plays_whole : Plays moves here.no.0 (period_frames here) (end_gains here.format.channels) true
             b.entries.items whole_board.entries.items (faults b.devices) (told b.devices) (faults devices)
             (told devices)
         plays_whole = plays_here devices xs ws e frames s block true read plays rested
@@ -166,31 +166,31 @@ module _ {D E : Type 0} (faults : D → ℕ) (told : D → Option (List DeviceLo
             period_order faults told moves state b whole_board order number at due true plays_whole whole_heads
             (rested_here devices xs ws e frames s block true read plays rested) refl refl refl
             (λ n e found. record { endpoint = e; found = found; format = refl })
-            (zip_set_seat b.seats.items b.book.endpoints.items at
+            (zip_set_seat b.seats.items b.book.registry.list at
             (record { endpoint = s.endpoint; next = s.next + frames; block = block }) here
             (seat_fits devices xs ws e frames s block true read plays rested here (s.next + frames) refl refl
             (omega arith))
             due.active.here order.seats)
-            order.book order.room order.seat_room
+            order.book order.room order.seat_room order.draft_room
 
     -- the device failed
     module _ (devices : D) (xs ws : List (StreamEntry E)) (e : Endpoint) (frames : ℕ) (s : Seat) (block : Block)
         (read : Read xs ws e frames s block)
         (plays : Plays moves number frames (end_gains e.format.channels) false xs ws (faults b.devices) (told b.devices)
         (faults devices) (told devices))
-        (rested : All (IsRested state) ws) (x : Endpoint) (x_read : x ≡ get_or b.book.endpoints.items at x)
+        (rested : All (IsRested state) ws) (registry : EndpointList)
+        (is : registry ≡ with_changed number (with_state STATE_NOTPRESENT) b.book.registry)
       where
         abbrev pub failed_board : Board D E
         failed_board = record {
           devices = devices;
-          book = record b.book {
-            endpoints = with_item b.book.endpoints at (record x { state = STATE_NOTPRESENT });
-          };
+          book = record b.book { registry = registry };
           seats = with_item b.seats at (record { endpoint = s.endpoint; next = s.next; block = block });
           entries = with_items b.entries ws;
+          drafts = b.drafts;
         }
 
-        abbrev plays_failed : Plays moves here.endpoint.0 (period_frames here) (end_gains here.format.channels) false
+        abbrev plays_failed : Plays moves here.no.0 (period_frames here) (end_gains here.format.channels) false
             b.entries.items failed_board.entries.items (faults b.devices) (told b.devices) (faults devices)
             (told devices)
         plays_failed = plays_here devices xs ws e frames s block false read plays rested
@@ -200,85 +200,43 @@ module _ {D E : Type 0} (faults : D → ℕ) (told : D → Option (List DeviceLo
             map-set_same playhead_of b.seats.items at (record { endpoint = s.endpoint; next = s.next; block = block }) s
             (ap playhead_of read.seat)
 
-        failed_endpoints : failed_board.book.endpoints.items ≡ with_failed here.endpoint.0 b.book.endpoints.items
+        failed_endpoints : failed_board.book.registry.list ≡ with_failed here.no.0 b.book.registry.list
         failed_endpoints =
-            ap (λ (y : Endpoint). slice_set b.book.endpoints.items at (record y { state = STATE_NOTPRESENT }))
-            (endpoint_read state b order number at due x x_read)
-            ∙ failed_in_place 0 here.endpoint.0 at b.book.endpoints.items here order.book.endpoints due.active.here refl
+            ap (λ (r : EndpointList). r.list) is
+            ∙ ap (λ n. with_failed n b.book.registry.list) (sym due.active.number_is)
+
+        failed_last : failed_board.book.registry.last ≡ b.book.registry.last
+        failed_last = ap (λ (r : EndpointList). r.last) is
 
         pub failed_does : b.book.levels_changed ≡ false →
             Does faults told moves None AnyData b failed_board (λ st. period_plan st number) hr.S_OK
             (to_le_bytes w32 0 ++ 1 ∷ [])
         failed_does fresh =
             period_does faults told moves state b failed_board order number at due false plays_failed fresh failed_heads
-            (λ stage tally. ap (λ es. record (book_state b.book stage tally) { endpoints = es }) failed_endpoints)
+            (λ stage tally.
+            ap₂ (λ es last. record (book_state b.book stage tally) { endpoints = es; last_endpoint = last })
+            failed_endpoints failed_last)
             (to_le_bytes w32 0 ++ 1 ∷ []) refl
 
-        abbrev one_failed : Endpoint → Endpoint
-        one_failed e = if is_endpoint here.endpoint.0 e then record e { state = STATE_NOTPRESENT } else e
-
-        number_stays : (n : ℕ) (e : Endpoint) → is_endpoint n (one_failed e) ≡ is_endpoint n e
-        number_stays n e =
-            chosen (λ (y : Endpoint). is_endpoint n y ≡ is_endpoint n e) (is_endpoint here.endpoint.0 e)
-            (record e { state = STATE_NOTPRESENT }) e refl refl
-
-        keeps : (n : ℕ) (e : Endpoint) → find (is_endpoint n) b.book.endpoints.items ≡ Some e →
-            KeepsFormat b.book.endpoints.items failed_board.book.endpoints.items n e
-        keeps n e found = record {
-          endpoint = one_failed e;
-          found =
-              ap (find (is_endpoint n)) failed_endpoints
-              ∙ find_map (is_endpoint n) one_failed (number_stays n) b.book.endpoints.items
-              ∙ ap (option_map one_failed) found;
-          format =
-              chosen (λ (y : Endpoint). y.format ≡ e.format) (is_endpoint here.endpoint.0 e)
-              (record e { state = STATE_NOTPRESENT }) e refl refl;
-        }
-
-        failed_book : IsBook failed_board.book
-        failed_book =
-            let same = endpoint_read state b order number at due x x_read in
-            record {
-              rooms = record {
-                connections = order.book.rooms.connections;
-                clients = order.book.rooms.clients;
-                endpoints = order.book.rooms.endpoints;
-              };
-              apart = order.book.apart;
-              opens = order.book.opens;
-              clients = order.book.clients;
-              few_clients = order.book.few_clients;
-              made = order.book.made;
-              clients_made = order.book.clients_made;
-              endpoints =
-                  subst (RisesFrom 0)
-                  (sym (map-set_same (λ (e : Endpoint). e.endpoint.0) b.book.endpoints.items at
-                  (record x { state = STATE_NOTPRESENT }) x (ap (λ (e : Endpoint). e.endpoint.0) x_read)))
-                  order.book.endpoints;
-              added =
-                  All-set (λ (e : Endpoint). e.endpoint.0 ≤ b.book.last_endpoint) b.book.endpoints.items at
-                  (record x { state = STATE_NOTPRESENT })
-                  (subst (λ (e : Endpoint). e.endpoint.0 ≤ b.book.last_endpoint) (sym same)
-                  (subst (λ (e : Endpoint). e.endpoint.0 ≤ b.book.last_endpoint)
-                  (get_or_from_slice_get b.book.endpoints.items at here x due.active.here)
-                  (order.book.added at x (endpoint_within state b order number at due))))
-                  order.book.added;
-              levels = order.book.levels;
-              owned = order.book.owned;
-            }
-
-        pub failed_order : InOrder state failed_board
-        failed_order =
-            let same = endpoint_read state b order number at due x x_read in
+        same_seat : Seats (record { endpoint = s.endpoint; next = s.next; block = block }) here
+        same_seat =
             let next =
             ap (λ (t : Seat). t.next) (seat_is devices xs ws e frames s block false read plays rested) in
             let most = due.seats.next in
+            seat_fits devices xs ws e frames s block false read plays rested here s.next refl refl (omega arith)
+
+        pub failed_order : InOrder state failed_board
+        failed_order =
             period_order faults told moves state b failed_board order number at due false plays_failed failed_heads
-            (rested_here devices xs ws e frames s block false read plays rested) refl refl refl keeps
-            (zip_set b.seats.items b.book.endpoints.items at
-            (record { endpoint = s.endpoint; next = s.next; block = block }) (record x { state = STATE_NOTPRESENT })
-            (seat_fits devices xs ws e frames s block false read plays rested
-            (record x { state = STATE_NOTPRESENT }) s.next (ap (λ (e : Endpoint). e.endpoint) same)
-            (ap (λ (e : Endpoint). e.format) same) (omega arith))
-            order.seats)
-            failed_book order.room order.seat_room
+            (rested_here devices xs ws e frames s block false read plays rested) refl refl refl
+            (keeps_format number (with_state STATE_NOTPRESENT) (λ e. refl) (λ e. refl) b.book.registry.list
+            failed_board.book.registry.list (ap (λ (r : EndpointList). r.list) is))
+            (subst (λ (r : EndpointList). AllZip Seats failed_board.seats.items r.list) (sym is)
+            (zip_changed number (with_state STATE_NOTPRESENT) failed_board.seats.items b.book.registry.list
+            (λ t e fits.
+            record { number = fits.number; next = fits.next; block = fits.block; format = fits.format })
+            (zip_set_seat b.seats.items b.book.registry.list at
+            (record { endpoint = s.endpoint; next = s.next; block = block }) here same_seat due.active.here
+            order.seats)))
+            (book_changed number (with_state STATE_NOTPRESENT) (λ e. refl) b.book registry is order.book) order.room
+            order.seat_room order.draft_room

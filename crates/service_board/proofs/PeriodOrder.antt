@@ -9,7 +9,7 @@ use Rattle.std.proofs.lemmas.List.Elements.{All-from_recursion, recursion_from_A
 use Rattle.std.proofs.lemmas.Option.{none-some, same_Some}
 use Rattle.device_io.specs.DeviceLog.{DeviceLog}
 use Rattle.ca_base.specs.declared.ids.SessionNo.{SessionNo}
-use Rattle.ca_base.specs.declared.limits.TheConstants.{CLIENTS, ENDPOINTS}
+use Rattle.ca_base.specs.declared.limits.TheConstants.{CLIENTS, ENDPOINTS, NOTICES}
 use Rattle.volume_stack.specs.Scaling.{unit_gain}
 use Rattle.buffer_ring.specs.declared.step.EndState.{EndState}
 use Rattle.buffer_ring.specs.declared.step.Step.{Step}
@@ -21,19 +21,20 @@ use Rattle.ca_stage.proofs.Lists.{find_map, found_passes}
 use Rattle.session_manager.specs.declared.session.Session.{Session}
 use Rattle.session_manager.specs.Sessions.{session_at}
 use Rattle.ca_machine.specs.declared.state.Client.{Client}
-use Rattle.ca_machine.specs.declared.state.Endpoint.{Endpoint}
-use Rattle.ca_machine.specs.State.{is_endpoint}
+use Rattle.device_registry.specs.declared.endpoint.Endpoint.{Endpoint}
+use Rattle.device_registry.specs.Endpoints.{is_endpoint}
 use Rattle.ca_machine.specs.Periods.{period_frames}
 use Rattle.period_engine.specs.declared.entry.StreamEntry.{StreamEntry}
 use Rattle.period_engine.specs.Entries.{IsRested}
 use Rattle.service_board.specs.Board.{playhead_of}
 use Rattle.service_board.specs.Due.{FindsDue}
-use Rattle.service_board.specs.InOrder.{Belongs, InOrder, IsBook, Seats, gains_by, is_seat, next_at}
+use Rattle.service_board.specs.InOrder.{Belongs, InOrder, IsBook, IsOn, Seats, gains_by, is_seat, next_at}
 use Rattle.service_board.specs.Plays.{AllGo, GoesBy, Plays, StaysNear, plays_on}
 use Rattle.service_board.specs.declared.board.Board.{Board}
 use Rattle.service_board.specs.declared.board.Seat.{Seat}
 use Rattle.service_board.specs.declared.book.Book.{Book}
 use Rattle.service_board.proofs.ByClient.{clients_stay}
+use Rattle.service_board.proofs.ChangedEndpoints.{KeepsFormat}
 use Rattle.service_board.proofs.DuePeriods.{next_by_heads}
 use Rattle.service_board.proofs.Finding.{find_mapped}
 use Rattle.service_board.proofs.PeriodDoes.{any_mixing, heads_by}
@@ -89,15 +90,6 @@ next_rises m false n heads some = omega arith
 
 -- ---- seats
 
--- an endpoint and its seat are set
-pub zip_set : (seats : List Seat) (endpoints : List Endpoint) (at : ℕ) (s : Seat) (e : Endpoint) → Seats s e →
-    AllZip Seats seats endpoints → AllZip Seats (slice_set seats at s) (slice_set endpoints at e)
-zip_set [] [] at s e fits h = tt
-zip_set (x ∷ seats) (y ∷ endpoints) zero s e fits h = (fits, h.1)
-zip_set (x ∷ seats) (y ∷ endpoints) (suc at) s e fits h = (h.0, zip_set seats endpoints at s e fits h.1)
-zip_set [] (y ∷ endpoints) at s e fits h = absurd h
-zip_set (x ∷ seats) [] at s e fits h = absurd h
-
 -- a seat is set
 pub zip_set_seat : (seats : List Seat) (endpoints : List Endpoint) (at : ℕ) (s : Seat) (e : Endpoint) → Seats s e →
     slice_get endpoints at ≡ Some e → AllZip Seats seats endpoints → AllZip Seats (slice_set seats at s) endpoints
@@ -111,28 +103,33 @@ zip_set_seat (x ∷ seats) [] at s e fits here h = absurd h
 
 -- ---- entries
 
--- an endpoint that was found is found, with its format
-pub record KeepsFormat (old new : List Endpoint) (n : ℕ) (e : Endpoint) : Type 0 where
-  pub endpoint : Endpoint
-  pub found : find (is_endpoint n) new ≡ Some endpoint
-  pub format : endpoint.format ≡ e.format
-
 module _ {E : Type 0} (moves : E → List Step → E → Type 0) (f : Stream → Stream) (number frames : ℕ) (whole : Bool)
     (book book' : Book) (seats seats' : List Seat) (clients : book'.clients.items ≡ book.clients.items)
     (sessions : book'.sessions ≡ book.sessions) (changed : book'.levels_changed ≡ book.levels_changed)
-    (keeps : (n : ℕ) (e : Endpoint) → find (is_endpoint n) book.endpoints.items ≡ Some e →
-    KeepsFormat book.endpoints.items book'.endpoints.items n e)
+    (keeps : (n : ℕ) (e : Endpoint) → find (is_endpoint n) book.registry.list ≡ Some e →
+    KeepsFormat book.registry.list book'.registry.list n e)
     (next : (n : ℕ) → next_at n seats + (if whole && n == number then frames else 0) ≤ next_at n seats')
   where
+    still_on : (n m channels channels' p q : ℕ) → m ≡ n → channels' ≡ channels →
+        q ≤ p + (if whole && n == number then frames else 0) → IsOn n channels p book.registry.list seats →
+        IsOn m channels' q book'.registry.list seats'
+    still_on n m channels channels' p q same fits near on =
+        let kept = keeps n on.endpoint on.there in
+        let rises = next n in
+        let behind = on.behind in
+        let within : q ≤ next_at n seats' = omega arith in
+        record {
+          endpoint = kept.endpoint;
+          there = ap (λ k. find (is_endpoint k) book'.registry.list) same ∙ kept.found;
+          fits = fits ∙ on.fits ∙ ap (λ format. format.channels) (sym kept.format);
+          behind = subst (λ k. q ≤ next_at k seats') (sym same) within;
+        }
+
     one_belongs : (steps : List Step) (a b : StreamEntry E) → GoesBy moves f steps a b →
         StaysNear number frames whole a b → Belongs book seats a → Belongs book' seats' b
     one_belongs steps a b goes near h =
         let client : b.client.0 ≡ a.client.0 = ap (λ c. c.0) goes.same.client in
         let endpoint : b.endpoint.0 ≡ a.endpoint.0 = ap (λ e. e.0) goes.same.endpoint in
-        let kept = keeps a.endpoint.0 h.endpoint h.there in
-        let rises = next a.endpoint.0 in
-        let position = h.position in
-        let within : b.position ≤ next_at a.endpoint.0 seats' = omega arith in
         record {
           client = h.client;
           live =
@@ -140,9 +137,9 @@ module _ {E : Type 0} (moves : E → List Step → E → Type 0) (f : Stream →
               ∙ ap (find (λ (c : Client). c.client.0 == a.client.0)) clients
               ∙ h.live;
           on = h.on ∙ sym endpoint;
-          endpoint = kept.endpoint;
-          there = ap (λ n. find (is_endpoint n) book'.endpoints.items) endpoint ∙ kept.found;
-          channels = goes.same.channels ∙ h.channels ∙ ap (λ format. format.channels) (sym kept.format);
+          opens = λ unclosed.
+              still_on a.endpoint.0 b.endpoint.0 a.channels b.channels a.position b.position endpoint goes.same.channels
+              near.position (h.opens (near.opens unclosed));
           within = subst (All (λ gain. gain ≤ unit_gain)) (sym goes.same.gains) h.within;
           gains = λ fresh.
               goes.same.gains
@@ -150,7 +147,6 @@ module _ {E : Type 0} (moves : E → List Step → E → Type 0) (f : Stream →
               ∙ ap₂ (λ (s : SessionNo) (list : List Session). gains_by h.client.levels (session_at s.0 list))
               (sym goes.same.session) (ap (λ s. s.list) (sym sessions));
           renders = goes.same.kind ∙ h.renders;
-          position = subst (λ n. b.position ≤ next_at n seats') (sym endpoint) within;
         }
 
     pub all_belong : (steps : ℕ → List Step) (xs ys : List (StreamEntry E)) → AllGo moves f steps xs ys →
@@ -167,7 +163,7 @@ module _ {E : Type 0} (moves : E → List Step → E → Type 0) (f : Stream →
 module _ {D E : Type 0} (faults : D → ℕ) (told : D → Option (List DeviceLog)) (moves : E → List Step → E → Type 0)
     (state : E → EndState) (b new : Board D E) (order : InOrder state b) (number at : ℕ) (due : FindsDue number b at)
     (whole : Bool)
-    (plays : Plays moves due.active.endpoint.endpoint.0 (period_frames due.active.endpoint)
+    (plays : Plays moves due.active.endpoint.no.0 (period_frames due.active.endpoint)
     (end_gains due.active.endpoint.format.channels) whole b.entries.items new.entries.items (faults b.devices)
     (told b.devices) (faults new.devices) (told new.devices))
     (heads : map playhead_of new.seats.items
@@ -175,7 +171,7 @@ module _ {D E : Type 0} (faults : D → ℕ) (told : D → Option (List DeviceLo
     (map playhead_of b.seats.items))
   where
     abbrev number_of : ℕ
-    number_of = due.active.endpoint.endpoint.0
+    number_of = due.active.endpoint.no.0
 
     abbrev frames_of : ℕ
     frames_of = period_frames due.active.endpoint
@@ -203,11 +199,12 @@ module _ {D E : Type 0} (faults : D → ℕ) (told : D → Option (List DeviceLo
 
     pub period_order : All (IsRested state) new.entries.items → new.book.clients.items ≡ b.book.clients.items →
         new.book.sessions ≡ b.book.sessions → new.book.levels_changed ≡ b.book.levels_changed →
-        ((n : ℕ) (e : Endpoint) → find (is_endpoint n) b.book.endpoints.items ≡ Some e →
-        KeepsFormat b.book.endpoints.items new.book.endpoints.items n e) →
-        AllZip Seats new.seats.items new.book.endpoints.items → IsBook new.book →
-        CLIENTS ≤ vec_capacity new.entries → ENDPOINTS ≤ vec_capacity new.seats → InOrder state new
-    period_order rested clients sessions changed keeps seats book room seat_room = record {
+        ((n : ℕ) (e : Endpoint) → find (is_endpoint n) b.book.registry.list ≡ Some e →
+        KeepsFormat b.book.registry.list new.book.registry.list n e) →
+        AllZip Seats new.seats.items new.book.registry.list → IsBook new.book →
+        CLIENTS ≤ vec_capacity new.entries → ENDPOINTS ≤ vec_capacity new.seats → NOTICES ≤ vec_capacity new.drafts →
+        InOrder state new
+    period_order rested clients sessions changed keeps seats book room seat_room draft_room = record {
       order =
           subst (RisesFrom 0)
           (sym (clients_stay moves (plays_on number_of frames_of whole) plays.steps b.entries.items new.entries.items
@@ -224,4 +221,5 @@ module _ {D E : Type 0} (faults : D → ℕ) (told : D → Option (List DeviceLo
       book = book;
       room = room;
       seat_room = seat_room;
+      draft_room = draft_room;
     }

@@ -2,11 +2,10 @@
 use Rattle.std.proofs.Common.{◌≡◌, ℕ, ◌||◌, not, List, [], ◌∷◌}
 use Rattle.std.proofs.Common.{◌++◌, length, Bool, true, false, Option, Some, None}
 use Rattle.std.proofs.Common.{refl, sym, ap, ◌∙◌, if◌then◌else◌, is_some, get_or}
-use Rattle.std.proofs.Common.{slice_get, ◌<◌, ◌≤◌, ◌⊎◌, inl, inr, arith}
+use Rattle.std.proofs.Common.{◌<◌, ◌≤◌, ◌⊎◌}
 use Rattle.std.specs.Option.{option_map_or}
 use Rattle.std.specs.List.{find, list_any, position}
-use Rattle.std.proofs.lemmas.Option.{get_or_from_slice_get, none-some, slice_get_cases}
-use Rattle.std.specs.Vec.{vec_len}
+use Rattle.std.proofs.lemmas.Option.{get_or_from_slice_get, none-some}
 use Rattle.device_io.specs.DeviceLog.{DeviceLog}
 use Rattle.ca_base.specs.declared.codes.Hr.{Hr}
 use Rattle.ca_base.specs.declared.codes.TheConstants.Hr as hr
@@ -19,20 +18,11 @@ use Rattle.ca_stage.specs.Moves.{stream_at}
 use Rattle.ca_stage.specs.Tally.{Tally}
 use Rattle.ca_machine.specs.declared.state.Client.{Client}
 use Rattle.ca_machine.specs.declared.state.Connection.{Connection}
-use Rattle.ca_machine.specs.declared.state.Endpoint.{Endpoint}
-use Rattle.ca_machine.specs.State.{State, client_of, is_connection, is_endpoint}
-use Rattle.ca_machine.specs.SharedRows.{control_rows, endpoint_of}
-use Rattle.ca_machine.specs.Streams.{
-  endpoint_rows,
-  has_no_match,
-  initialize_rows,
-  is_cross_process,
-  is_faulty,
-  is_malformed,
-  joining_rows,
-  later_rows,
-  session_key,
-}
+use Rattle.device_registry.specs.declared.endpoint.Endpoint.{Endpoint}
+use Rattle.ca_machine.specs.State.{State, client_of, is_connection}
+use Rattle.device_registry.specs.Endpoints.{is_endpoint}
+use Rattle.ca_machine.specs.SharedRows.{connection_rows, control_rows, endpoint_of, shut_rows}
+use Rattle.ca_machine.specs.Streams.{endpoint_rows, has_no_match, initialize_rows, is_cross_process, is_faulty, is_malformed, joining_rows, later_rows, session_key}
 use Rattle.buffer_ring.specs.declared.step.Step.{Step}
 use Rattle.service_board.specs.Board.{state_of}
 use Rattle.service_board.specs.Does.{AnyData, Does}
@@ -95,17 +85,25 @@ key_from x endpoint o =
 -- ---- what each row says, by what was found
 
 module _ {D E : Type 0} (b : Board D E) (x : Asked) where
-  pub connected_says : (from : ℕ) → Some from ≡ position (is_connection x.conn.0) b.book.connections.items →
-      Says b (control_rows x.conn.0) None
-  connected_says from e datas tally =
+  pub known_says : (from : ℕ) → Some from ≡ position (is_connection x.conn.0) b.book.connections.items →
+      Says b (connection_rows x.conn.0) None
+  known_says from e datas tally =
       let f = found_at (is_connection x.conn.0) b.book.connections.items from e in
       ap (λ v. if not v then Some hr.E_HANDLE else None)
       (any_found (is_connection x.conn.0) b.book.connections.items f.member f.found)
 
+  pub connected_says : (from : ℕ) → Some from ≡ position (is_connection x.conn.0) b.book.connections.items →
+      Says b shut_rows None → Says b (control_rows x.conn.0) None
+  connected_says from e runs = says_later b (connection_rows x.conn.0) shut_rows None (known_says from e) runs
+
+  pub shut_says : (from : ℕ) (code : Hr) → Some from ≡ position (is_connection x.conn.0) b.book.connections.items →
+      Says b shut_rows (Some code) → Says b (control_rows x.conn.0) (Some code)
+  shut_says from code e shut = says_later b (connection_rows x.conn.0) shut_rows (Some code) (known_says from e) shut
+
   pub unconnected_says : None ≡ position (is_connection x.conn.0) b.book.connections.items →
       Says b (control_rows x.conn.0) (Some hr.E_HANDLE)
   unconnected_says e datas tally =
-      ap (λ v. if not v then Some hr.E_HANDLE else None)
+      ap (λ v. if not v then Some hr.E_HANDLE else if b.book.is_shut then Some hr.SERVICE_NOT_RUNNING else None)
       (any_none (is_connection x.conn.0) b.book.connections.items
       (none_at (is_connection x.conn.0) b.book.connections.items e))
 
@@ -135,28 +133,21 @@ module _ {D E : Type 0} (b : Board D E) (x : Asked) where
 
   -- of a client on an endpoint that were found
   module _ (at : ℕ) (found : FindsEndpoint x.conn.0 x.client.0 b at) where
-    pub read_endpoint : (e : Endpoint) → e ≡ get_or b.book.endpoints.items at e → found.active.endpoint ≡ e
+    pub read_endpoint : (e : Endpoint) → e ≡ get_or b.book.registry.list at e → found.active.endpoint ≡ e
     read_endpoint e read =
-        sym (get_or_from_slice_get b.book.endpoints.items at found.active.endpoint e found.active.here) ∙ sym read
+        sym (get_or_from_slice_get b.book.registry.list at found.active.endpoint e found.active.here) ∙ sym read
 
-    pub within : at < vec_len b.book.endpoints
-    within = by (slice_get_cases b.book.endpoints.items at).1
-      where
-        by : ((e : Endpoint) × (at < length b.book.endpoints.items) × (slice_get b.book.endpoints.items at ≡ Some e)
-            × (get_or b.book.endpoints.items at e ≡ e))
-            ⊎ ((length b.book.endpoints.items ≤ at) × (slice_get b.book.endpoints.items at ≡ None)) →
-            at < vec_len b.book.endpoints
-        by (inl there) = let k = there.1 in let l = b.book.endpoints.ok.0 in omega arith
-        by (inr past) = absurd (none-some found.active.endpoint (sym past.1 ∙ found.active.here))
+    pub within : at < length b.book.registry.list
+    within = found.active.within
 
     -- the endpoint's number, and that it is found by it
-    pub number_read : (e : Endpoint) → found.active.endpoint ≡ e → found.named.endpoint.0 ≡ e.endpoint.0
-    number_read e same = sym found.active.number_is ∙ ap (λ (y : Endpoint). y.endpoint.0) same
+    pub number_read : (e : Endpoint) → found.active.endpoint ≡ e → found.named.endpoint.0 ≡ e.no.0
+    number_read e same = sym found.active.number_is ∙ ap (λ (y : Endpoint). y.no.0) same
 
     pub there_read : (e : Endpoint) → found.active.endpoint ≡ e →
-        find (is_endpoint e.endpoint.0) b.book.endpoints.items ≡ Some e
+        find (is_endpoint e.no.0) b.book.registry.list ≡ Some e
     there_read e same =
-        ap (λ n. find (is_endpoint n) b.book.endpoints.items) (sym (number_read e same))
+        ap (λ n. find (is_endpoint n) b.book.registry.list) (sym (number_read e same))
         ∙ found.active.found
         ∙ ap (λ y. Some y) same
 
@@ -176,11 +167,11 @@ module _ {D E : Type 0} (b : Board D E) (x : Asked) where
 
     pub session_says : (e : Endpoint) → found.active.endpoint ≡ e → (c : Connection) →
         find (is_connection x.conn.0) b.book.connections.items ≡ Some c → (verdict : Option Hr) →
-        first (join_rows (key_by x c e.endpoint) b.book.sessions) ≡ verdict → Says b (own_session_rows x) verdict
+        first (join_rows (key_by x c e.no) b.book.sessions) ≡ verdict → Says b (own_session_rows x) verdict
     session_says e same c there verdict says datas tally =
         ap (λ o. first (joining_rows (state_of datas tally b) x.conn.0 o (arguments x))) found.found
         ∙ ap (λ k. first (join_rows k b.book.sessions))
-        (key_is found.named e.endpoint c (number_read e same) there datas tally)
+        (key_is found.named e.no c (number_read e same) there datas tally)
         ∙ says
 
 -- ---- the rows one after another: the first of each group, and those behind them
@@ -247,15 +238,15 @@ module _ {D E : Type 0} (b : Board D E) (x : Asked) where
 
   -- past the rows before those of the format
   pub past_five : (from at : ℕ) → Some from ≡ position (is_connection x.conn.0) b.book.connections.items →
-      first (later_rows (arguments x)) ≡ None → FindsEndpoint x.conn.0 x.client.0 b at →
+      Says b shut_rows None → first (later_rows (arguments x)) ≡ None → FindsEndpoint x.conn.0 x.client.0 b at →
       find (is_entry_of x.client.0) b.entries.items ≡ None → first (argument_rows (arguments x)) ≡ None →
       Says b (five x) None
-  past_five from at connected later found none says =
+  past_five from at connected runs later found none says =
       past_arguments says (past_stream none (past_endpoint at found
-      (past_later (connected_says b x from connected) later)))
+      (past_later (connected_says b x from connected runs) later)))
 
-  pub at_control : Says b (control_rows x.conn.0) (Some hr.E_HANDLE) → Says b (all_rows x) (Some hr.E_HANDLE)
-  at_control says = says_front b (control_rows x.conn.0) (behind_one x) hr.E_HANDLE says
+  pub at_control : (code : Hr) → Says b (control_rows x.conn.0) (Some code) → Says b (all_rows x) (Some code)
+  at_control code says = says_front b (control_rows x.conn.0) (behind_one x) code says
 
   pub at_later : (code : Hr) → first (later_rows (arguments x)) ≡ Some code →
       Says b (control_rows x.conn.0) None → Says b (all_rows x) (Some code)

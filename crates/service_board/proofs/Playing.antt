@@ -1,16 +1,19 @@
 -- A period over entries: what its parts need, and what they come to.
 use Rattle.std.proofs.Common.{◌≡◌, ℕ, ◌+◌, ◌<◌, ◌≤◌, ◌==◌, ◌&&◌, List, [], ◌∷◌, ◌++◌, length, map, Bool, true}
-use Rattle.std.proofs.Common.{false, Option, refl, sym, ap, ◌∙◌, subst, arith, eqb-true, if◌then◌else◌}
+use Rattle.std.proofs.Common.{false, Option, Some, refl, sym, ap, ◌∙◌, subst, arith, eqb-true, if◌then◌else◌}
 use Rattle.std.specs.Prelude.{slice_index}
 use Rattle.std.specs.List.{All, AllByRecursion, AllZip}
-use Rattle.std.proofs.lemmas.Bool.{and_parts}
+use Rattle.std.proofs.lemmas.Bool.{and_parts, false≢true}
 use Rattle.std.proofs.lemmas.List.Elements.{All-nil, All-cons, All-head, All-tail}
 use Rattle.device_io.specs.DeviceLog.{DeviceLog}
 use Rattle.volume_stack.specs.Scaling.{unit_gain}
 use Rattle.buffer_ring.specs.declared.step.EndState.{EndState}
 use Rattle.buffer_ring.specs.declared.step.Step.{Step}
-use Rattle.ca_stage.specs.Stage.{Stream, BufferData, no_data}
-use Rattle.ca_stage.specs.Moves.{Mixing, is_playing}
+use Rattle.ca_base.specs.declared.ids.Gate.{Gate}
+use Rattle.ca_base.specs.declared.ids.Gate.TheVariants as gate
+use Rattle.ca_base.specs.declared.ids.Reason.TheVariants.{Removal}
+use Rattle.ca_stage.specs.Stage.{Stream, BufferData, is_open_gate, no_data}
+use Rattle.ca_stage.specs.Moves.{Mixing, closed, is_open_on, is_playing, moved}
 use Rattle.ca_stage.specs.Mix.{sound_bytes}
 use Rattle.ca_stage.specs.Order.{RisesFrom}
 use Rattle.ca_stage.proofs.Lists.{chosen, chosen_by}
@@ -19,12 +22,24 @@ use Rattle.period_engine.specs.Agreement.{AllAgree}
 use Rattle.period_engine.specs.Entries.{AreEntries, IsPicked, is_played, stream_with, streams_of}
 use Rattle.period_engine.specs.Sounds.{AllTakeSteps, IsMixable, MixesThese, Sounds}
 use Rattle.period_engine.specs.SubSteps.{IsSameEntry, Turned, picks_on, retires_on}
+use Rattle.service_board.specs.Closing.{closes_within}
 use Rattle.service_board.specs.Does.{after_steps}
-use Rattle.service_board.specs.Plays.{AllGo, IsPlayable, Plays, StaysNear, closes_on, ends_on, plays_on}
+use Rattle.service_board.specs.Plays.{AllGo, IsPlayable, Plays, StaysNear, ends_on, plays_on}
 use Rattle.service_board.proofs.ByClient.{AreAfter, agree_alike, agree_first, agree_then, all_after, all_read}
 use Rattle.service_board.proofs.ByClient.{all_turned}
 use Rattle.service_board.proofs.ByClient.{are_after, clients_of, clients_stay, go_alike, steps_of, streams_went, within}
 use Rattle.service_board.proofs.ByClient.{within_each, within_none}
+
+-- an entry that is played is open on the endpoint
+open_by : (seen : Gate) → is_open_gate seen ≡ true → seen ≡ gate.Open
+open_by gate.Open h = refl
+open_by (gate.Closed reason) h = absurd (false≢true h)
+
+pub plays_here : {E : Type 0} (number : ℕ) (e : StreamEntry E) → is_played number e ≡ true →
+    (e.endpoint.0 ≡ number) × (e.gate ≡ gate.Open)
+plays_here number e h =
+    let parts = and_parts (e.endpoint.0 == number) _ h in
+    (eqb-true e.endpoint.0 number parts.0, open_by e.gate (and_parts (is_open_gate e.gate) _ parts.1).0)
 
 -- ---- what the Sound needs
 
@@ -53,37 +68,37 @@ module _ {E : Type 0} (moves : E → List Step → E → Type 0) (state : E → 
     count = omega (arith, length_turned f xs ys h, entries.count);
   }
 
-  -- an entry of the endpoint is one whose endpoint has its number
-  plays_here : (e : StreamEntry E) → is_played number e ≡ true → e.endpoint.0 ≡ number
-  plays_here e h = eqb-true e.endpoint.0 number (and_parts (e.endpoint.0 == number) _ h).0
-
   played_or_not : (e : StreamEntry E) → IsPicked state number frames e → (b : Bool) → is_played number e ≡ b →
-      0 < e.picked → e.endpoint.0 ≡ number
-  played_or_not e picked true h some = plays_here e h
+      0 < e.picked → (e.endpoint.0 ≡ number) × (e.gate ≡ gate.Open)
+  played_or_not e picked true h some = plays_here number e h
   played_or_not e picked false h some = absurd (omega (arith, picked.plays h, some))
 
-  one_mixable : (channels : ℕ) (a b : StreamEntry E) → IsSameEntry a b → IsPlayable state number frames channels a →
-      IsPicked state number frames b → IsMixable channels b
-  one_mixable channels a b same playable picked = record {
+  one_mixable : (channels : ℕ) (a b : StreamEntry E) → IsSameEntry a b → b.gate ≡ a.gate →
+      IsPlayable state number frames channels a → IsPicked state number frames b → IsMixable channels b
+  one_mixable channels a b same gated playable picked = record {
     fits = λ some.
-        same.channels
-        ∙ playable.fits
-        (ap (λ e. e.0) (sym same.endpoint) ∙ played_or_not b picked (is_played number b) refl some);
+        let plays = played_or_not b picked (is_played number b) refl some in
+        same.channels ∙ playable.fits (ap (λ e. e.0) (sym same.endpoint) ∙ plays.0) (sym gated ∙ plays.1);
     gains = subst (All (λ gain. gain ≤ unit_gain)) (sym same.gains) playable.gains;
   }
 
-  pub all_mixable : (f : Stream → Stream) (channels : ℕ) (xs ys : List (StreamEntry E)) →
-      AllZip (Turned moves f) xs ys → All (IsPlayable state number frames channels) xs →
+  pub all_mixable : (f : Stream → Stream) (keeps : (a : StreamEntry E) → (f (stream_with no_data a)).gate ≡ a.gate)
+      (channels : ℕ) (xs ys : List (StreamEntry E)) → AllZip (Turned moves f) xs ys → All (IsPlayable state number frames channels) xs →
       All (IsPicked state number frames) ys → All (IsMixable channels) ys
-  all_mixable f channels [] [] h playable picked = All-nil (IsMixable channels)
-  all_mixable f channels (x ∷ xs) (y ∷ ys) h playable picked =
+  all_mixable f keeps channels [] [] h playable picked = All-nil (IsMixable channels)
+  all_mixable f keeps channels (x ∷ xs) (y ∷ ys) h playable picked =
       All-cons (IsMixable channels) y ys
-      (one_mixable channels x y h.0.same (All-head (IsPlayable state number frames channels) x xs playable)
+      (one_mixable channels x y h.0.same (h.0.gate ∙ keeps x) (All-head (IsPlayable state number frames channels) x xs playable)
       (All-head (IsPicked state number frames) y ys picked))
-      (all_mixable f channels xs ys h.1 (All-tail (IsPlayable state number frames channels) x xs playable)
+      (all_mixable f keeps channels xs ys h.1 (All-tail (IsPlayable state number frames channels) x xs playable)
       (All-tail (IsPicked state number frames) y ys picked))
-  all_mixable f channels [] (y ∷ ys) h playable picked = absurd h
-  all_mixable f channels (x ∷ xs) [] h playable picked = absurd h
+  all_mixable f keeps channels [] (y ∷ ys) h playable picked = absurd h
+  all_mixable f keeps channels (x ∷ xs) [] h playable picked = absurd h
+
+  -- picks leave the gates
+  pub picks_gate : (a : StreamEntry E) → (picks_on number frames (stream_with no_data a)).gate ≡ a.gate
+  picks_gate a =
+      chosen (λ (s : Stream). s.gate ≡ a.gate) (is_playing number (stream_with no_data a)) _ _ refl refl
 
   -- ---- positions
 
@@ -93,8 +108,11 @@ module _ {E : Type 0} (moves : E → List Step → E → Type 0) (state : E → 
       h ∙ chosen (λ (s : Stream). s.position ≡ a.position) (is_playing number (stream_with no_data a)) _ _ refl refl
 
   -- what was rendered of an entry is within the period, and of the endpoint's entries alone
+  abbrev IsNear : Bool → StreamEntry E → StreamEntry E → Type 0
+  IsNear whole b c = c.position ≤ b.position + (if whole && b.endpoint.0 == number then frames else 0)
+
   retired_position : (b c : StreamEntry E) → IsPicked state number frames b →
-      c.position ≡ (retires_on number (stream_with no_data b)).position → StaysNear number frames true b c
+      c.position ≡ (retires_on number (stream_with no_data b)).position → IsNear true b c
   retired_position b c picked h =
       subst (λ p. p ≤ b.position + (if b.endpoint.0 == number then frames else 0)) (sym h)
       (chosen_by (λ (s : Stream). s.position ≤ b.position + (if b.endpoint.0 == number then frames else 0))
@@ -105,20 +123,34 @@ module _ {E : Type 0} (moves : E → List Step → E → Type 0) (state : E → 
       subst (λ t. b.position + b.picked ≤ b.position + (if t then frames else 0)) (sym here) (omega arith))
       (λ plays. omega arith))
 
-  closed_position : (b c : StreamEntry E) → c.position ≡ (closes_on number (stream_with no_data b)).position →
-      StaysNear number frames false b c
+  closed_position : (b c : StreamEntry E) → c.position ≡ (closes_within Removal (Some number) (stream_with no_data b)).position →
+      IsNear false b c
   closed_position b c h =
       let same : c.position ≡ b.position =
       h ∙ chosen (λ (s : Stream). s.position ≡ b.position) _ _ _ refl refl in
       omega arith
 
   ended_position : (whole : Bool) (b c : StreamEntry E) → IsPicked state number frames b →
-      c.position ≡ (ends_on number whole (stream_with no_data b)).position → StaysNear number frames whole b c
+      c.position ≡ (ends_on number whole (stream_with no_data b)).position → IsNear whole b c
   ended_position true b c picked h = retired_position b c picked h
   ended_position false b c picked h = closed_position b c h
 
+  -- and no gate opens
+  closed_opens : gate.Closed Removal ≡ gate.Open → ⊥
+  closed_opens h = cc
+
+  ended_opens : (whole : Bool) (b c : StreamEntry E) → c.gate ≡ (ends_on number whole (stream_with no_data b)).gate →
+      c.gate ≡ gate.Open → b.gate ≡ gate.Open
+  ended_opens true b c h unclosed =
+      sym (h ∙ chosen (λ (s : Stream). s.gate ≡ b.gate) (is_playing number (stream_with no_data b)) _ _ refl refl)
+      ∙ unclosed
+  ended_opens false b c h unclosed =
+      chosen (λ (s : Stream). s.gate ≡ gate.Open → b.gate ≡ gate.Open) (is_open_on number (stream_with no_data b))
+      (moved (closed Removal) (stream_with no_data b)) (stream_with no_data b) (λ k. absurd (closed_opens k)) (λ k. k)
+      (sym h ∙ unclosed)
+
   near : (whole : Bool) (a a' b c : StreamEntry E) → IsSameEntry a a' → IsSameEntry a' b → a'.position ≡ a.position →
-      b.position ≡ a'.position → StaysNear number frames whole b c → StaysNear number frames whole a c
+      b.position ≡ a'.position → IsNear whole b c → IsNear whole a c
   near whole a a' b c same same' p p' h =
       let endpoint : b.endpoint.0 ≡ a.endpoint.0 = ap (λ e. e.0) (same'.endpoint ∙ same.endpoint) in
       let at : c.position ≤ b.position + (if whole && a.endpoint.0 == number then frames else 0) =
@@ -131,8 +163,12 @@ module _ {E : Type 0} (moves : E → List Step → E → Type 0) (state : E → 
       AllZip (StaysNear number frames whole) xs ws
   all_near whole ss [] [] [] [] h k picked l = tt
   all_near whole ss (x ∷ xs) (y ∷ ys) (z ∷ zs) (w ∷ ws) h k picked l = (
-    near whole x y z w h.0.same k.0.same (picked_position x y h.0.position) k.0.position
-        (ended_position whole z w (All-head (IsPicked state number frames) z zs picked) l.0.position),
+    record {
+      position =
+          near whole x y z w h.0.same k.0.same (picked_position x y h.0.position) k.0.position
+          (ended_position whole z w (All-head (IsPicked state number frames) z zs picked) l.0.position);
+      opens = λ unclosed. sym (k.0.gate ∙ h.0.gate ∙ picks_gate x) ∙ ended_opens whole z w l.0.gate unclosed;
+    },
     all_near whole ss xs ys zs ws h.1 k.1 (All-tail (IsPicked state number frames) z zs picked) l.1,
   )
   all_near whole ss [] [] [] (w ∷ ws) h k picked l = absurd l

@@ -68,19 +68,21 @@ module _ {E : Type 0} where
 
 -- ---- boards
 
+-- a board whose entries have other gains stands for the same state
+pub same_state : {D E : Type 0} (old mid : Board D E) → HasSameStreams old mid → (datas : ℕ → BufferData)
+    (tally : Tally) → state_of datas tally mid ≡ state_of datas tally old
+same_state old mid same datas tally =
+    ap (state_of datas tally) same.same
+    ∙ ap (λ streams. book_state old.book (record {
+      playheads = map playhead_of old.seats.items;
+      streams = streams;
+    }) tally) (streams_same datas old.entries.items mid.entries.items same.entries)
+
 module _ {D E : Type 0} (faults : D → ℕ) (told : D → Option (List DeviceLog)) (moves : E → List Step → E → Type 0)
     (given : Option E) (known : (ℕ → BufferData) → Type 0) (old mid new : Board D E) (same : HasSameStreams old mid)
     (plan : State → Plan) (result : Hr) (payload : List ℕ)
     (made : Does faults told moves given known mid new plan result payload)
   where
-    state_same : (datas : ℕ → BufferData) (tally : Tally) → state_of datas tally mid ≡ state_of datas tally old
-    state_same datas tally =
-        ap (state_of datas tally) same.same
-        ∙ ap (λ streams. book_state old.book (record {
-          playheads = map playhead_of old.seats.items;
-          streams = streams;
-        }) tally) (streams_same datas old.entries.items mid.entries.items same.entries)
-
     after_same : (datas : ℕ → BufferData) (tally : Tally) →
         state_of (after_steps made.steps mid.entries.items datas) tally new
         ≡ state_of (after_steps made.steps old.entries.items datas) tally new
@@ -113,7 +115,8 @@ module _ {D E : Type 0} (faults : D → ℕ) (told : D → Option (List DeviceLo
                 (outside faults told devices) (outside faults told new.devices)) (ap (λ b. b.devices) same.same)
                 (subst (λ st. AnswersBy st (plan st) result payload
                 (state_of (after_steps made.steps old.entries.items datas) did.tally new)
-                (outside faults told mid.devices) (outside faults told new.devices)) (state_same datas tally)
+                (outside faults told mid.devices) (outside faults told new.devices))
+                (same_state old mid same datas tally)
                 (subst (λ after. AnswersBy (state_of datas tally mid) (plan (state_of datas tally mid)) result payload
                 after (outside faults told mid.devices) (outside faults told new.devices))
                 (after_same datas did.tally) did.answers));

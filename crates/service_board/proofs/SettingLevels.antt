@@ -26,7 +26,7 @@ use Rattle.service_board.specs.declared.book.Book.{Book}
 
 -- a board in order with another book of the same endpoints, to which its entries belong too
 rebooked : {D E : Type 0} (state : E → EndState) (b : Board D E) (book : Book) →
-    book.endpoints ≡ b.book.endpoints → IsBook book →
+    book.registry ≡ b.book.registry → IsBook book →
     ((e : StreamEntry E) → Belongs b.book b.seats.items e → Belongs book b.seats.items e) → InOrder state b →
     InOrder state (record b { book = book })
 rebooked state b book endpoints fits belongs order = record {
@@ -38,6 +38,7 @@ rebooked state b book endpoints fits belongs order = record {
   book = fits;
   room = order.room;
   seat_room = order.seat_room;
+  draft_room = order.draft_room;
 }
 
 -- ---- sessions
@@ -49,7 +50,7 @@ with_sessions sessions book = record book { sessions = sessions; levels_changed 
 module _ (sessions : SessionList) where
   still_book : (book : Book) → IsBook book → IsBook (with_sessions sessions book)
   still_book book h = record {
-    rooms = record { connections = h.rooms.connections; clients = h.rooms.clients; endpoints = h.rooms.endpoints };
+    rooms = record { connections = h.rooms.connections; clients = h.rooms.clients; notices = h.rooms.notices };
     apart = h.apart;
     opens = h.opens;
     clients = h.clients;
@@ -68,13 +69,10 @@ module _ (sessions : SessionList) where
     client = h.client;
     live = h.live;
     on = h.on;
-    endpoint = h.endpoint;
-    there = h.there;
-    channels = h.channels;
+    opens = h.opens;
     within = h.within;
     gains = λ same. absurd (true≢false same);
     renders = h.renders;
-    position = h.position;
   }
 
   pub sessions_order : {D E : Type 0} (state : E → EndState) (b : Board D E) → InOrder state b →
@@ -179,7 +177,7 @@ module _ (conn client channel level : ℕ) where
           rooms = record {
             connections = h.rooms.connections;
             clients = h.rooms.clients;
-            endpoints = h.rooms.endpoints;
+            notices = h.rooms.notices;
           };
           apart = h.apart;
           opens = h.opens;
@@ -209,13 +207,10 @@ module _ (conn client channel level : ℕ) where
           (λ y. ap (λ n. n.0 == e.client.0) (same_number (is_client_of conn client y) y)) book.clients.items
           ∙ ap (option_map leveled_if) h.live;
       on = ap (λ n. n.0) (same_endpoint (is_client_of conn client h.client) h.client) ∙ h.on;
-      endpoint = h.endpoint;
-      there = h.there;
-      channels = h.channels;
+      opens = h.opens;
       within = h.within;
       gains = λ same. absurd (true≢false same);
       renders = h.renders;
-      position = h.position;
     }
 
 -- a board stays in order after a level of a call's client was set

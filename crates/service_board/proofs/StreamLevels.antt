@@ -1,5 +1,5 @@
 -- Calls of the levels of a client's stream: what they answer.
-use Rattle.std.proofs.Common.{◌≡◌, ℕ, ◌<◌, ◌≤◌, ◌||◌, nat_le, nat_lt, List, [], true, false, Some, None, refl, sym, ap}
+use Rattle.std.proofs.Common.{◌≡◌, ℕ, ◌<◌, ◌≤◌, ◌||◌, nat_le, nat_lt, List, [], true, false, None, refl, sym, ap}
 use Rattle.std.proofs.Common.{◌∙◌, get_or, Option, ◌⊎◌, inl, inr}
 use Rattle.std.specs.Option.{option_map_or}
 use Rattle.std.specs.Int.{w32, to_le_bytes}
@@ -9,24 +9,15 @@ use Rattle.ca_base.specs.declared.codes.TheConstants.Hr as hr
 use Rattle.ca_base.specs.declared.limits.TheConstants.{MAX_LEVEL}
 use Rattle.buffer_ring.specs.declared.step.Step.{Step}
 use Rattle.ca_stage.specs.Order.{RisesFrom}
-use Rattle.ca_stage.specs.Stage.{BufferData, Stream}
-use Rattle.ca_stage.specs.Tally.{Tally}
+use Rattle.ca_stage.specs.Stage.{Stream}
 use Rattle.ca_machine.specs.declared.state.Client.{Client}
 use Rattle.ca_machine.specs.State.{State, live_clients}
 use Rattle.ca_machine.specs.Plan.{Outcome, answered, granted}
 use Rattle.ca_machine.specs.SharedRows.{with_stream}
-use Rattle.ca_machine.specs.Streams.{
-  get_stream_level_plan,
-  get_stream_level_rows,
-  set_stream_level_plan,
-  set_stream_level_rows,
-  stream_level,
-  with_stream_level,
-}
+use Rattle.ca_machine.specs.Streams.{get_stream_level_plan, get_stream_level_rows, set_stream_level_plan, set_stream_level_rows, stream_level, with_stream_level}
 use Rattle.period_engine.specs.declared.entry.StreamEntry.{StreamEntry}
 use Rattle.service_board.specs.Board.{state_of}
 use Rattle.service_board.specs.Does.{AnyData, Does}
-use Rattle.service_board.specs.Lookups.{Says}
 use Rattle.service_board.specs.declared.board.Board.{Board}
 use Rattle.service_board.proofs.EndpointCalls.{plain_tells}
 use Rattle.service_board.proofs.Granting.{book_does}

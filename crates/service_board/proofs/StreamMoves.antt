@@ -10,7 +10,7 @@ use Rattle.std.proofs.lemmas.Option.{get_or_from_slice_get, same_Some, slice_get
 use Rattle.device_io.specs.DeviceLog.{DeviceLog}
 use Rattle.ca_base.specs.declared.codes.Hr.{Hr}
 use Rattle.ca_base.specs.declared.codes.TheConstants.Hr as hr
-use Rattle.ca_base.specs.declared.limits.TheConstants.{CLIENTS, ENDPOINTS}
+use Rattle.ca_base.specs.declared.limits.TheConstants.{CLIENTS, ENDPOINTS, NOTICES}
 use Rattle.ca_base.specs.Rows.{Row, first}
 use Rattle.volume_stack.specs.Scaling.{unit_gain}
 use Rattle.buffer_ring.specs.declared.step.EndState.{EndState}
@@ -21,7 +21,10 @@ use Rattle.ca_stage.specs.Order.{RisesFrom}
 use Rattle.ca_stage.specs.Tally.{Tally, tally_after}
 use Rattle.ca_stage.proofs.Lists.{map_same}
 use Rattle.session_manager.specs.Sessions.{session_at}
-use Rattle.ca_machine.specs.State.{State, is_endpoint}
+use Rattle.ca_machine.specs.State.{State}
+use Rattle.device_registry.specs.declared.endpoint.Endpoint.{Endpoint}
+use Rattle.device_registry.specs.Endpoints.{is_endpoint}
+use Rattle.ca_base.specs.declared.ids.Gate.TheVariants as gate
 use Rattle.ca_machine.specs.Plan.{Outcome, Plan, granted}
 use Rattle.ca_machine.specs.SharedRows.{stream_plan, with_stream}
 use Rattle.ca_machine.specs.View.{AnswersBy, outside}
@@ -31,21 +34,13 @@ use Rattle.period_engine.specs.Entries.{AreInOrder, IsRested, stream_of, stream_
 use Rattle.period_engine.specs.SubSteps.{IsSameEntry}
 use Rattle.service_board.specs.Board.{book_state, playhead_of, state_of}
 use Rattle.service_board.specs.Does.{Does, Made, after_steps, channels_at, store_at}
-use Rattle.service_board.specs.InOrder.{Belongs, InOrder, IsBook, Seats, gains_by, next_at}
+use Rattle.ca_base.specs.declared.ids.EndpointNo.{EndpointNo}
+use Rattle.service_board.specs.InOrder.{IsOn, Belongs, InOrder, IsBook, Seats, gains_by, next_at}
 use Rattle.service_board.specs.declared.board.Board.{Board}
 use Rattle.service_board.specs.declared.board.Seat.{Seat}
 use Rattle.service_board.specs.declared.book.Book.{Book}
 use Rattle.service_board.proofs.Doing.{answers_refused}
-use Rattle.service_board.proofs.OneEntry.{
-  IsSole,
-  agrees_found,
-  channels_found,
-  made_only,
-  only,
-  only_here,
-  sole_there,
-  streams_set,
-}
+use Rattle.service_board.proofs.OneEntry.{IsSole, agrees_found, channels_found, made_only, only, only_here, sole_there, streams_set}
 use Rattle.service_board.proofs.Granting.{answers_granted}
 use Rattle.service_board.proofs.StreamRows.{Opened, grants_outcome, stream_own}
 
@@ -55,36 +50,45 @@ pub record ChangesOne {D E : Type 0} (at : ℕ) (changed : StreamEntry E) (old n
   pub book : new.book ≡ old.book
   pub seats : new.seats.items ≡ old.seats.items
   pub seat_room : vec_capacity new.seats ≡ vec_capacity old.seats
+  pub draft_room : vec_capacity new.drafts ≡ vec_capacity old.drafts
   pub entries : new.entries.items ≡ set old.entries.items at changed
   pub room : vec_capacity new.entries ≡ vec_capacity old.entries
 
+-- an endpoint that an entry is on is still the one of an entry like it whose position isn't beyond
+on_kept : (endpoints : List Endpoint) (seats : List Seat) (n m : EndpointNo) (channels channels' p q : ℕ) → m ≡ n →
+    channels' ≡ channels → q ≤ p → IsOn n.0 channels p endpoints seats → IsOn m.0 channels' q endpoints seats
+on_kept endpoints seats n m channels channels' p q same fits le on =
+    let place : p ≤ next_at m.0 seats = subst (λ k. p ≤ next_at k.0 seats) (sym same) on.behind in
+    record {
+      endpoint = on.endpoint;
+      there = ap (λ k. find (is_endpoint k.0) endpoints) same ∙ on.there;
+      fits = fits ∙ on.fits;
+      behind = omega arith;
+    }
+
 -- an entry still belongs to a book
 pub belongs_kept : {E : Type 0} (book : Book) (seats : List Seat) (a b : StreamEntry E) → IsSameEntry a b →
-    b.position ≤ a.position → Belongs book seats a → Belongs book seats b
-belongs_kept book seats a b same before h =
-    let place : a.position ≤ next_at b.endpoint.0 seats =
-    subst (λ n. a.position ≤ next_at n.0 seats) (sym same.endpoint) h.position in
-    record {
-      client = h.client;
-      live = ap (λ n. find (λ c. c.client.0 == n.0) book.clients.items) same.client ∙ h.live;
-      on = h.on ∙ ap (λ n. n.0) (sym same.endpoint);
-      endpoint = h.endpoint;
-      there = ap (λ n. find (is_endpoint n.0) book.endpoints.items) same.endpoint ∙ h.there;
-      channels = same.channels ∙ h.channels;
-      within = subst (All (λ gain. gain ≤ unit_gain)) (sym same.gains) h.within;
-      gains = λ fresh.
-          same.gains
-          ∙ h.gains fresh
-          ∙ ap (λ s. gains_by h.client.levels (session_at s.0 book.sessions.list)) (sym same.session);
-      renders = same.kind ∙ h.renders;
-      position = omega arith;
-    }
+    (b.gate ≡ gate.Open → a.gate ≡ gate.Open) → b.position ≤ a.position → Belongs book seats a → Belongs book seats b
+belongs_kept book seats a b same opens before h = record {
+  client = h.client;
+  live = ap (λ n. find (λ c. c.client.0 == n.0) book.clients.items) same.client ∙ h.live;
+  on = h.on ∙ ap (λ n. n.0) (sym same.endpoint);
+  opens = λ unclosed.
+      on_kept book.registry.list seats a.endpoint b.endpoint a.channels b.channels a.position b.position same.endpoint
+      same.channels before (h.opens (opens unclosed));
+  within = subst (All (λ gain. gain ≤ unit_gain)) (sym same.gains) h.within;
+  gains = λ fresh.
+      same.gains
+      ∙ h.gains fresh
+      ∙ ap (λ s. gains_by h.client.levels (session_at s.0 book.sessions.list)) (sym same.session);
+  renders = same.kind ∙ h.renders;
+}
 
 -- a board stays in order
 pub order_kept : {D E : Type 0} (state : E → EndState) (old new : Board D E) (at : ℕ) (a b : StreamEntry E) →
-    slice_get old.entries.items at ≡ Some a → ChangesOne at b old new → IsSameEntry a b → IsRested state b →
-    b.position ≤ a.position → InOrder state old → InOrder state new
-order_kept state old new at a b here one same rested before order =
+    slice_get old.entries.items at ≡ Some a → (b.gate ≡ gate.Open → a.gate ≡ gate.Open) → ChangesOne at b old new →
+    IsSameEntry a b → IsRested state b → b.position ≤ a.position → InOrder state old → InOrder state new
+order_kept state old new at a b here opens one same rested before order =
     let xs = old.entries.items in
     let within = slice_get_within xs at a here in
     let reads : get_or xs at a ≡ a = get_or_from_slice_get xs at a a here in
@@ -101,12 +105,13 @@ order_kept state old new at a b here one same rested before order =
           (subst (λ k. All (Belongs k new.seats.items) (set xs at b)) (sym one.book)
           (subst (λ ss. All (Belongs old.book ss) (set xs at b)) (sym one.seats)
           (All-set (Belongs old.book old.seats.items) xs at b
-          (belongs_kept old.book old.seats.items a b same before belonged) order.belong)));
-      seats = subst (λ ss. AllZip Seats ss new.book.endpoints.items) (sym one.seats)
-          (subst (λ k. AllZip Seats old.seats.items k.endpoints.items) (sym one.book) order.seats);
+          (belongs_kept old.book old.seats.items a b same opens before belonged) order.belong)));
+      seats = subst (λ ss. AllZip Seats ss new.book.registry.list) (sym one.seats)
+          (subst (λ k. AllZip Seats old.seats.items k.registry.list) (sym one.book) order.seats);
       book = subst IsBook (sym one.book) order.book;
       room = subst (λ n. CLIENTS ≤ n) (sym one.room) order.room;
       seat_room = subst (λ n. ENDPOINTS ≤ n) (sym one.seat_room) order.seat_room;
+      draft_room = subst (λ n. NOTICES ≤ n) (sym one.draft_room) order.draft_room;
     }
 
 -- the step of a machine that the entry's change is

@@ -1,41 +1,30 @@
 -- What calls tell of sessions.
-use Rattle.std.proofs.Common.{◌≡◌, ℕ, ◌*◌, ◌≤◌, ◌==◌, ◌&&◌, List, [], ◌∷◌, ◌++◌, length, filter, Bool}
-use Rattle.std.proofs.Common.{true, false, Option, Some, None, is_none, is_some, not, refl, sym, ap, ap₂, ◌∙◌, arith}
+use Rattle.std.proofs.Common.{◌≡◌, ℕ, ◌*◌, ◌≤◌, ◌==◌, ◌&&◌, List, [], ◌∷◌, ◌++◌, Bool}
+use Rattle.std.proofs.Common.{true, false, Option, Some, None, is_none, is_some, not, refl, sym, ap, ap₂, ◌∙◌}
 use Rattle.std.proofs.Common.{if◌then◌else◌}
 use Rattle.std.specs.List.{find, list_any, position}
-use Rattle.std.specs.Int.{w32, w64, to_le_bytes}
-use Rattle.std.proofs.lemmas.List.{length-append, length-map}
 use Rattle.device_io.specs.DeviceLog.{DeviceLog}
 use Rattle.ca_base.specs.declared.codes.Hr.{Hr}
 use Rattle.ca_base.specs.declared.codes.TheConstants.Hr as hr
-use Rattle.ca_base.specs.declared.limits.TheConstants.{SESSIONS}
 use Rattle.ca_base.specs.declared.values.TheConstants.{SESSION_ACTIVE, SESSION_EXPIRED, SESSION_INACTIVE}
 use Rattle.ca_base.specs.Rows.{Row, first}
 use Rattle.buffer_ring.specs.declared.step.Step.{Step}
 use Rattle.ca_stage.specs.Stage.{BufferData}
-use Rattle.ca_stage.proofs.Lists.{chosen}
 use Rattle.session_manager.specs.declared.session.Session.{Session}
 use Rattle.session_manager.specs.Rows.{found_rows}
-use Rattle.session_manager.specs.Sessions.{is_on, number_bytes, numbers_on, session_at}
-use Rattle.ca_machine.specs.declared.state.Endpoint.{Endpoint}
-use Rattle.ca_machine.specs.State.{State, endpoint_at, is_endpoint}
+use Rattle.session_manager.specs.Sessions.{numbers_on, session_at}
+use Rattle.device_registry.specs.declared.endpoint.Endpoint.{Endpoint}
+use Rattle.ca_machine.specs.State.{State, endpoint_at}
+use Rattle.device_registry.specs.Endpoints.{is_endpoint}
 use Rattle.ca_machine.specs.Plan.{Outcome, answered, plain}
 use Rattle.ca_machine.specs.SharedRows.{control_rows}
-use Rattle.ca_machine.specs.Sessions.{
-  enum_sessions_plan,
-  get_session_plan,
-  numbers_payload,
-  session_payload,
-  state_of_session,
-  with_session,
-}
+use Rattle.ca_machine.specs.Sessions.{enum_sessions_plan, get_session_plan, numbers_payload, session_payload, state_of_session, with_session}
 use Rattle.period_engine.specs.declared.entry.StreamEntry.{StreamEntry}
 use Rattle.period_engine.specs.Entries.{stream_of, streams_of}
 use Rattle.service_board.specs.Board.{state_of}
 use Rattle.service_board.specs.Does.{AnyData, Does}
 use Rattle.service_board.specs.Lookups.{Says}
 use Rattle.service_board.specs.declared.board.Board.{Board}
-use Rattle.reply_payload.specs.declared.payload.TheConstants.{REPLY_ROOM}
 use Rattle.service_board.proofs.Doing.{refused_does}
 use Rattle.service_board.proofs.EndpointCalls.{plain_tells}
 use Rattle.service_board.proofs.Finding.{found_at, none_at}
@@ -76,7 +65,7 @@ module _ {D E : Type 0} (faults : D → ℕ) (told : D → Option (List DeviceLo
   module _ (connected : Says b (control_rows conn) None) where
     -- what the row of an endpoint says
     enum_says : (endpoint : ℕ) (missing : Bool) →
-        is_none (find (is_endpoint endpoint) b.book.endpoints.items) ≡ missing →
+        is_none (find (is_endpoint endpoint) b.book.registry.list) ≡ missing →
         Says b (λ st. (enum_sessions_plan st conn endpoint).rows) (if missing then Some hr.E_NOTFOUND else None)
     enum_says endpoint missing e =
         says_later b (control_rows conn) (λ st. (is_none (endpoint_at endpoint st), hr.E_NOTFOUND) ∷ [])
@@ -84,14 +73,14 @@ module _ {D E : Type 0} (faults : D → ℕ) (told : D → Option (List DeviceLo
         (λ datas tally. ap (λ v. if v then Some hr.E_NOTFOUND else None) e)
 
     -- the endpoint isn't there
-    pub enum_refused : (endpoint : ℕ) → is_none (find (is_endpoint endpoint) b.book.endpoints.items) ≡ true →
+    pub enum_refused : (endpoint : ℕ) → is_none (find (is_endpoint endpoint) b.book.registry.list) ≡ true →
         Does faults told moves None AnyData b b (λ st. enum_sessions_plan st conn endpoint) hr.E_NOTFOUND []
     enum_refused endpoint missing =
         refused_does faults told moves None AnyData stays b (λ st. enum_sessions_plan st conn endpoint)
         hr.E_NOTFOUND (enum_says endpoint true missing)
 
     -- the numbers of its sessions are told
-    pub enum_told : (endpoint : ℕ) → is_none (find (is_endpoint endpoint) b.book.endpoints.items) ≡ false →
+    pub enum_told : (endpoint : ℕ) → is_none (find (is_endpoint endpoint) b.book.registry.list) ≡ false →
         Does faults told moves None AnyData b b (λ st. enum_sessions_plan st conn endpoint) hr.S_OK
         (numbers_payload (numbers_on endpoint b.book.sessions.list))
     enum_told endpoint there =

@@ -14,8 +14,9 @@ use Rattle.ca_stage.specs.Moves.{stream_at}
 use Rattle.ca_stage.specs.Tally.{Tally}
 use Rattle.ca_stage.proofs.Lists.{found_passes}
 use Rattle.ca_machine.specs.declared.state.Client.{Client}
-use Rattle.ca_machine.specs.declared.state.Endpoint.{Endpoint}
-use Rattle.ca_machine.specs.State.{client_of, is_client_of, is_endpoint}
+use Rattle.device_registry.specs.declared.endpoint.Endpoint.{Endpoint}
+use Rattle.ca_machine.specs.State.{client_of, is_client_of}
+use Rattle.device_registry.specs.Endpoints.{is_endpoint}
 use Rattle.ca_machine.specs.SharedRows.{client_rows, if_stream, invalidated_rows, is_inactive}
 use Rattle.ca_machine.specs.Streams.{endpoint_rows}
 use Rattle.period_engine.specs.declared.entry.StreamEntry.{StreamEntry}
@@ -29,26 +30,26 @@ use Rattle.service_board.proofs.LookingUp.{says_front}
 
 -- the endpoint at a place, as it is read there
 module _ (book : Book) (number at : ℕ) (e : Endpoint)
-    (there : Some at ≡ position (is_endpoint number) book.endpoints.items)
-    (read : e ≡ get_or book.endpoints.items at e) where
-  read_is : (f : FoundAt (is_endpoint number) book.endpoints.items at) → f.member ≡ e
-  read_is f = sym (get_or_from_slice_get book.endpoints.items at f.member e f.here) ∙ sym read
+    (there : Some at ≡ position (is_endpoint number) book.registry.list)
+    (read : e ≡ get_or book.registry.list at e) where
+  read_is : (f : FoundAt (is_endpoint number) book.registry.list at) → f.member ≡ e
+  read_is f = sym (get_or_from_slice_get book.registry.list at f.member e f.here) ∙ sym read
 
   pub active_there : e.state ≡ STATE_ACTIVE → IsActiveAt number book at
   active_there active =
-      let f = found_at (is_endpoint number) book.endpoints.items at there in
+      let f = found_at (is_endpoint number) book.registry.list at there in
       record {
         within = f.within;
         endpoint = f.member;
         here = f.here;
         found = f.found;
-        number_is = eqb-true f.member.endpoint.0 number f.passes;
+        number_is = eqb-true f.member.no.0 number f.passes;
         active = ap (λ x. x.state) (read_is f) ∙ active;
       }
 
   pub inactive_there : is_inactive (Some e) ≡ true → LacksActive number book
   inactive_there other =
-      let f = found_at (is_endpoint number) book.endpoints.items at there in
+      let f = found_at (is_endpoint number) book.registry.list at there in
       ap is_inactive (f.found ∙ ap (λ x. Some x) (read_is f)) ∙ other
 
 -- the gate of a client's entry, as it is read by its place
@@ -100,12 +101,12 @@ module _ {D E : Type 0} (b : Board D E) (conn client : ℕ) (named : Client)
     (found : find (is_client_of conn client) b.book.clients.items ≡ Some named) where
   endpoint_says : (verdict : Bool) →
       (is_disconnected client b.entries.items
-      || is_inactive (find (is_endpoint named.endpoint.0) b.book.endpoints.items)) ≡ verdict →
+      || is_inactive (find (is_endpoint named.endpoint.0) b.book.registry.list)) ≡ verdict →
       Says b (λ st. endpoint_rows st conn client) (if verdict then Some hr.DEVICE_INVALIDATED else None)
   endpoint_says verdict e datas tally =
       let st = state_of datas tally b in
       ap (λ o. first ((is_none o, hr.E_HANDLE) ∷ invalidated_rows st o (stream_at client st.stage))) found
-      ∙ ap (λ v. if v || is_inactive (find (is_endpoint named.endpoint.0) b.book.endpoints.items)
+      ∙ ap (λ v. if v || is_inactive (find (is_endpoint named.endpoint.0) b.book.registry.list)
       then Some hr.DEVICE_INVALIDATED else None) (stream_disconnected b client datas tally)
       ∙ ap (λ v. if v then Some hr.DEVICE_INVALIDATED else None) e
 
@@ -113,7 +114,7 @@ module _ {D E : Type 0} (b : Board D E) (conn client : ℕ) (named : Client)
       Says b (λ st. endpoint_rows st conn client) (Some hr.DEVICE_INVALIDATED)
   disconnected_says closed =
       endpoint_says true
-      (ap (λ v. v || is_inactive (find (is_endpoint named.endpoint.0) b.book.endpoints.items)) (sym closed))
+      (ap (λ v. v || is_inactive (find (is_endpoint named.endpoint.0) b.book.registry.list)) (sym closed))
 
   pub inactive_says : false ≡ is_disconnected client b.entries.items → LacksActive named.endpoint.0 b.book →
       Says b (λ st. endpoint_rows st conn client) (Some hr.DEVICE_INVALIDATED)
@@ -124,7 +125,7 @@ module _ {D E : Type 0} (b : Board D E) (conn client : ℕ) (named : Client)
   finds_endpoint at opens active =
       let parts = and_parts (named.client.0 == client) (named.conn.0 == conn)
       (found_passes (is_client_of conn client) b.book.clients.items named found) in
-      let there : is_inactive (find (is_endpoint named.endpoint.0) b.book.endpoints.items) ≡ false =
+      let there : is_inactive (find (is_endpoint named.endpoint.0) b.book.registry.list) ≡ false =
       ap is_inactive active.found
       ∙ ap not (eq-eqb active.endpoint.state STATE_ACTIVE active.active) in
       record {

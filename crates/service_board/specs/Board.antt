@@ -20,9 +20,12 @@ book_state book stage tally = record {
   tally = tally;
   connections = book.connections.items;
   clients = book.clients.items;
-  endpoints = book.endpoints.items;
+  endpoints = book.registry.list;
   sessions = book.sessions.list;
-  last_endpoint = book.last_endpoint;
+  choices = book.choices;
+  notices = book.notices.items;
+  is_shut = book.is_shut;
+  last_endpoint = book.registry.last;
   clients_made = book.clients_made;
   sessions_made = book.sessions.made;
 }

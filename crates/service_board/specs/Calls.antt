@@ -2,7 +2,7 @@
 use Rattle.ca_model.specs.declared.event.Call.{Call}
 use Rattle.ca_model.specs.declared.event.Call.TheVariants as call
 
--- a call that asks for no memory, needs nothing of the client's side, gives no frame a fate, and answers a few bytes
+-- a call that opens no stream, needs nothing of the client's side, gives no frame a fate, and answers a few bytes
 abbrev pub IsPlainCall : Call → Type 0
 IsPlainCall (call.Release c) = ⊥
 IsPlainCall (call.Initialize c share flags duration period format session) = ⊥
@@ -11,6 +11,10 @@ IsPlainCall (call.Reset c) = ⊥
 IsPlainCall (call.GetBuffer c frames) = ⊥
 IsPlainCall (call.ReleaseBuffer c frames flags bytes) = ⊥
 IsPlainCall (call.EnumSessions e) = ⊥
+IsPlainCall (call.EnumEndpoints flow mask) = ⊥
+IsPlainCall (call.DeviceInfo e) = ⊥
+IsPlainCall (call.TakeNotices max) = ⊥
+IsPlainCall (call.AwaitNotices max) = ⊥
 IsPlainCall (call.GetSession s) = ⊥
 IsPlainCall _ = Unit {0}
 
@@ -18,6 +22,10 @@ IsPlainCall _ = Unit {0}
 abbrev pub IsShortCall : Call → Type 0
 IsShortCall (call.EnumSessions e) = ⊥
 IsShortCall (call.GetSession s) = ⊥
+IsShortCall (call.EnumEndpoints flow mask) = ⊥
+IsShortCall (call.DeviceInfo e) = ⊥
+IsShortCall (call.TakeNotices max) = ⊥
+IsShortCall (call.AwaitNotices max) = ⊥
 IsShortCall _ = Unit {0}
 
 -- a call that changes a session

@@ -4,6 +4,7 @@ use Rattle.std.specs.Prelude.{Option, Some}
 use Rattle.std.specs.List.{All, AllZip, IsDistinct, find, list_any}
 use Rattle.std.specs.Option.{option_map_or}
 use Rattle.std.specs.Vec.{vec_capacity}
+use Rattle.ca_base.specs.declared.ids.Gate.TheVariants as gate
 use Rattle.ca_base.specs.declared.ids.StreamKind.TheVariants.{Render}
 use Rattle.ca_base.specs.declared.limits.TheConstants.{
   CLIENTS,
@@ -12,6 +13,7 @@ use Rattle.ca_base.specs.declared.limits.TheConstants.{
   MAX_CONNECTION_NAME,
   MAX_COUNT,
   MAX_LEVEL,
+  NOTICES,
 }
 use Rattle.wave_format.specs.Format.{IsValid}
 use Rattle.volume_stack.specs.Scaling.{unit_gain}
@@ -21,8 +23,9 @@ use Rattle.session_manager.specs.declared.session.Session.{Session}
 use Rattle.session_manager.specs.Sessions.{session_at}
 use Rattle.ca_machine.specs.declared.state.Client.{Client}
 use Rattle.ca_machine.specs.declared.state.Connection.{Connection}
-use Rattle.ca_machine.specs.declared.state.Endpoint.{Endpoint}
-use Rattle.ca_machine.specs.State.{is_connection, is_endpoint, live_clients}
+use Rattle.device_registry.specs.declared.endpoint.Endpoint.{Endpoint}
+use Rattle.ca_machine.specs.State.{is_connection, live_clients}
+use Rattle.device_registry.specs.Endpoints.{is_endpoint}
 use Rattle.ca_machine.specs.Periods.{gain_in, period_frames}
 use Rattle.period_engine.specs.declared.entry.StreamEntry.{StreamEntry}
 use Rattle.period_engine.specs.Entries.{AreInOrder, IsRested}
@@ -30,11 +33,11 @@ use Rattle.service_board.specs.declared.board.Board.{Board}
 use Rattle.service_board.specs.declared.board.Seat.{Seat}
 use Rattle.service_board.specs.declared.book.Book.{Book}
 
--- the tables have the room of their limits
+-- the tables have the room of their limits, and there is one list of notices for each number of a connection
 pub record HasRooms (b : Book) : Type 0 where
   pub connections : CONNECTIONS ≤ vec_capacity b.connections
   pub clients : CLIENTS ≤ vec_capacity b.clients
-  pub endpoints : ENDPOINTS ≤ vec_capacity b.endpoints
+  pub notices : length b.notices.items ≡ CONNECTIONS
 
 -- a connection has a number that there may be, and a name that fits
 pub record IsOpen (c : Connection) : Type 0 where
@@ -60,14 +63,14 @@ pub record IsBook (b : Book) : Type 0 where
   pub few_clients : length b.clients.items ≤ CLIENTS
   pub made : All (λ c. c.client.0 ≤ b.clients_made) b.clients.items
   pub clients_made : b.clients_made ≤ MAX_COUNT
-  pub endpoints : RisesFrom 0 (map (λ e. e.endpoint.0) b.endpoints.items)
-  pub added : All (λ e. e.endpoint.0 ≤ b.last_endpoint) b.endpoints.items
+  pub endpoints : RisesFrom 0 (map (λ e. e.no.0) b.registry.list)
+  pub added : All (λ e. e.no.0 ≤ b.registry.last) b.registry.list
   pub levels : All HasLevels b.clients.items
   pub owned : All (IsOwned b.connections.items) b.clients.items
 
 -- a seat is that of an endpoint: its next place is in range, and a period fits in its scratch
 pub record Seats (seat : Seat) (e : Endpoint) : Type 0 where
-  pub number : seat.endpoint.0 ≡ e.endpoint.0
+  pub number : seat.endpoint.0 ≡ e.no.0
   pub next : seat.next ≤ MAX_COUNT
   pub block : period_frames e * e.format.channels ≤ seat.block.samples
   pub format : IsValid e.format
@@ -85,20 +88,24 @@ abbrev pub gains_by : List ℕ → Option Session → List ℕ
 gains_by levels session =
     gain_in levels session 0 ∷ gain_in levels session 1 ∷ gain_in levels session 2 ∷ gain_in levels session 3 ∷ []
 
--- an entry is that of a live client, on the client's endpoint, with the endpoint's channels; its gains are in range,
--- and unless levels have changed they are those of the levels; its stream renders, and its position isn't beyond the
--- endpoint's next place
+-- an endpoint is there with so many channels, and a position isn't beyond its next place
+pub record IsOn (number channels position : ℕ) (endpoints : List Endpoint) (seats : List Seat) : Type 0 where
+  pub endpoint : Endpoint
+  pub there : find (is_endpoint number) endpoints ≡ Some endpoint
+  pub fits : channels ≡ endpoint.format.channels
+  pub behind : position ≤ next_at number seats
+
+-- an entry is that of a live client, on the client's endpoint; if it is open, the endpoint is there with its channels,
+-- and its position isn't beyond the endpoint's next place; its gains are in range, and unless levels have changed they
+-- are those of the levels; its stream renders
 pub record Belongs {E : Type 0} (book : Book) (seats : List Seat) (e : StreamEntry E) : Type 0 where
   pub client : Client
   pub live : find (λ c. c.client.0 == e.client.0) book.clients.items ≡ Some client
   pub on : client.endpoint.0 ≡ e.endpoint.0
-  pub endpoint : Endpoint
-  pub there : find (is_endpoint e.endpoint.0) book.endpoints.items ≡ Some endpoint
-  pub channels : e.channels ≡ endpoint.format.channels
+  pub opens : e.gate ≡ gate.Open → IsOn e.endpoint.0 e.channels e.position book.registry.list seats
   pub within : All (λ gain. gain ≤ unit_gain) e.gains
   pub gains : book.levels_changed ≡ false → e.gains ≡ gains_by client.levels (session_at e.session.0 book.sessions.list)
   pub renders : e.kind ≡ Render
-  pub position : e.position ≤ next_at e.endpoint.0 seats
 
 -- a board between events: entries stand in rising order of their clients' numbers, nothing is picked, and the tables
 -- fit one another
@@ -106,7 +113,8 @@ pub record InOrder {D E : Type 0} (state : E → EndState) (b : Board D E) : Typ
   pub order : AreInOrder b.entries.items
   pub rested : All (IsRested state) b.entries.items
   pub belong : All (Belongs b.book b.seats.items) b.entries.items
-  pub seats : AllZip Seats b.seats.items b.book.endpoints.items
+  pub seats : AllZip Seats b.seats.items b.book.registry.list
   pub book : IsBook b.book
   pub room : CLIENTS ≤ vec_capacity b.entries
   pub seat_room : ENDPOINTS ≤ vec_capacity b.seats
+  pub draft_room : NOTICES ≤ vec_capacity b.drafts

@@ -5,9 +5,12 @@ pub mod Does
 pub mod Calls
 pub mod Lookups
 pub mod New
+pub mod Closing
 pub mod Plays
+pub mod NamedEndpoints
 pub mod Due
 pub mod StreamCalls
 pub mod Leaving
 pub mod Formats
 pub mod Openings
+pub mod Telling

@@ -1,5 +1,5 @@
 -- What look-ups of a call find, and the rows that refuse it where they don't (this project's own).
-use Rattle.std.specs.Prelude.{◌≡◌, ℕ, ◌<◌, ◌==◌, ◌++◌, List, length, Bool, true, false, not, Option, Some, None}
+use Rattle.std.specs.Prelude.{◌≡◌, ℕ, ◌-◌, ◌<◌, ◌==◌, ◌++◌, List, length, Bool, true, false, not, Option, Some, None}
 use Rattle.std.specs.Prelude.{slice_get}
 use Rattle.std.specs.List.{find}
 use Rattle.std.specs.Option.{option_map_or}
@@ -11,9 +11,10 @@ use Rattle.ca_stage.specs.Stage.{BufferData, is_open_gate}
 use Rattle.ca_stage.specs.Moves.{stream_at}
 use Rattle.ca_stage.specs.Tally.{Tally}
 use Rattle.ca_machine.specs.declared.state.Client.{Client}
-use Rattle.ca_machine.specs.declared.state.Endpoint.{Endpoint}
-use Rattle.ca_machine.specs.State.{State, is_client_of, is_endpoint}
-use Rattle.ca_machine.specs.SharedRows.{client_rows, control_rows, is_inactive, stream_rows}
+use Rattle.device_registry.specs.declared.endpoint.Endpoint.{Endpoint}
+use Rattle.ca_machine.specs.State.{State, is_client_of}
+use Rattle.device_registry.specs.Endpoints.{is_endpoint}
+use Rattle.ca_machine.specs.SharedRows.{client_rows, connection_rows, control_rows, is_inactive, stream_rows}
 use Rattle.ca_machine.specs.Streams.{endpoint_rows}
 use Rattle.period_engine.specs.declared.entry.StreamEntry.{StreamEntry}
 use Rattle.period_engine.specs.Entries.{stream_of}
@@ -25,9 +26,13 @@ use Rattle.service_board.specs.declared.book.Book.{Book}
 abbrev pub Says : {D E : Type 0} → Board D E → (State → List (Row Hr)) → Option Hr → Type 0
 Says b rows verdict = (datas : ℕ → BufferData) (tally : Tally) → first (rows (state_of datas tally b)) ≡ verdict
 
--- the rows that come first in each call of a client, and in each control call of a client's stream
+-- the rows that come first in each call of a client, in each control call of one that isn't answered after a shutdown,
+-- and in each control call of a client's stream
 abbrev pub client_call_rows : ℕ → ℕ → State → List (Row Hr)
-client_call_rows conn client st = control_rows conn st ++ client_rows conn client st
+client_call_rows conn client st = connection_rows conn st ++ client_rows conn client st
+
+abbrev pub client_control_rows : ℕ → ℕ → State → List (Row Hr)
+client_control_rows conn client st = control_rows conn st ++ client_rows conn client st
 
 abbrev pub stream_call_rows : ℕ → ℕ → State → List (Row Hr)
 stream_call_rows conn client st =
@@ -42,6 +47,13 @@ pub record FindsClient {D E : Type 0} (conn client : ℕ) (b : Board D E) (at : 
   pub client_is : named.client.0 ≡ client
   pub conn_is : named.conn.0 ≡ conn
   pub says : Says b (client_call_rows conn client) None
+
+-- at this place of the book stand the notices of a connection, and none of these rows holds
+pub record FindsNotices {D E : Type 0} (conn : ℕ) (rows : State → List (Row Hr)) (b : Board D E) (at : ℕ) : Type 0
+  where
+    pub place : at ≡ conn - 1
+    pub within : at < length b.book.notices.items
+    pub says : Says b rows None
 
 -- the entry of a client
 abbrev pub is_entry_of : {E : Type 0} → ℕ → StreamEntry E → Bool
@@ -65,15 +77,15 @@ is_disconnected client entries =
 
 -- an endpoint isn't there, or isn't ACTIVE
 abbrev pub LacksActive : ℕ → Book → Type 0
-LacksActive number book = is_inactive (find (is_endpoint number) book.endpoints.items) ≡ true
+LacksActive number book = is_inactive (find (is_endpoint number) book.registry.list) ≡ true
 
 -- at this place stands an endpoint, which is ACTIVE
 pub record IsActiveAt (number : ℕ) (book : Book) (at : ℕ) : Type 0 where
-  pub within : at < length book.endpoints.items
+  pub within : at < length book.registry.list
   pub endpoint : Endpoint
-  pub here : slice_get book.endpoints.items at ≡ Some endpoint
-  pub found : find (is_endpoint number) book.endpoints.items ≡ Some endpoint
-  pub number_is : endpoint.endpoint.0 ≡ number
+  pub here : slice_get book.registry.list at ≡ Some endpoint
+  pub found : find (is_endpoint number) book.registry.list ≡ Some endpoint
+  pub number_is : endpoint.no.0 ≡ number
   pub active : endpoint.state ≡ STATE_ACTIVE
 
 -- at this place stands the endpoint of a call's client, which is ACTIVE; a stream of the client wasn't disconnected;

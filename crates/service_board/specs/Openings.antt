@@ -21,9 +21,10 @@ use Rattle.session_manager.specs.Rows.{join_rows}
 use Rattle.session_manager.specs.Sessions.{joined, number_joined}
 use Rattle.ca_stage.specs.Stage.{BufferData, no_data}
 use Rattle.ca_machine.specs.declared.state.Client.{Client}
-use Rattle.ca_machine.specs.declared.state.Endpoint.{Endpoint}
+use Rattle.device_registry.specs.declared.endpoint.Endpoint.{Endpoint}
 use Rattle.ca_machine.specs.declared.state.Connection.{Connection}
-use Rattle.ca_machine.specs.State.{State, is_client_of, is_connection, is_endpoint}
+use Rattle.ca_machine.specs.State.{State, is_client_of, is_connection}
+use Rattle.device_registry.specs.Endpoints.{is_endpoint}
 use Rattle.ca_machine.specs.Plan.{Plan}
 use Rattle.ca_machine.specs.Streams.{
   Opening,
@@ -124,7 +125,7 @@ pub record Plans {D E : Type 0} (x : Asked) (b : Board D E) (plan : OpeningPlan)
   pub client_is : named.client.0 ≡ x.client.0
   pub on : named.endpoint.0 ≡ plan.endpoint.0
   pub endpoint : Endpoint
-  pub there : find (is_endpoint plan.endpoint.0) b.book.endpoints.items ≡ Some endpoint
+  pub there : find (is_endpoint plan.endpoint.0) b.book.registry.list ≡ Some endpoint
   pub fresh : find (is_entry_of x.client.0) b.entries.items ≡ None
   pub connection : Connection
   pub connected : find (is_connection x.conn.0) b.book.connections.items ≡ Some connection

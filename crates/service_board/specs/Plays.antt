@@ -1,43 +1,49 @@
 -- What a period of an endpoint makes of entries (this project's own).
-use Rattle.std.specs.Prelude.{◌≡◌, ℕ, ◌+◌, ◌≤◌, ◌==◌, ◌&&◌, List, [], ◌∷◌, map, Bool, true, false, None, if◌then◌else◌}
-use Rattle.std.specs.Prelude.{Option}
+use Rattle.std.specs.Prelude.{◌≡◌, ℕ, ◌+◌, ◌≤◌, ◌==◌, ◌&&◌, List, [], ◌∷◌, map, Bool, true, false, if◌then◌else◌}
+use Rattle.std.specs.Prelude.{Option, Some, None}
 use Rattle.std.specs.List.{All, AllZip}
 use Rattle.device_io.specs.DeviceLog.{DeviceLog}
+use Rattle.ca_base.specs.declared.ids.Gate.TheVariants as gate
 use Rattle.ca_base.specs.declared.ids.Reason.TheVariants.{Removal}
 use Rattle.volume_stack.specs.Scaling.{unit_gain}
 use Rattle.buffer_ring.specs.declared.step.EndState.{EndState}
 use Rattle.buffer_ring.specs.declared.step.Step.{Step}
 use Rattle.ca_stage.specs.Stage.{Stream, BufferData}
-use Rattle.ca_stage.specs.Moves.{Mixing, closed, moved, is_open_on}
+use Rattle.ca_stage.specs.Moves.{Mixing}
 use Rattle.ca_stage.specs.Mix.{sound_bytes}
 use Rattle.period_engine.specs.declared.entry.StreamEntry.{StreamEntry}
 use Rattle.period_engine.specs.Agreement.{Agrees, AllAgree, data_after}
 use Rattle.period_engine.specs.Entries.{HasRoom, IsRested, stream_with, streams_of}
 use Rattle.period_engine.specs.Offers.{Offers}
-use Rattle.period_engine.specs.Sounds.{MixesThese}
-use Rattle.period_engine.specs.SubSteps.{IsSameEntry, picks_on, retires_on}
+use Rattle.period_engine.specs.Sounds.{MixesThese, Sounds}
+use Rattle.period_engine.specs.SubSteps.{IsSameEntry, Turned, picks_on, retires_on}
+use Rattle.service_board.specs.Closing.{closes_within}
 use Rattle.service_board.specs.Does.{store_at}
 
--- a close of those streams that are open on an endpoint
-abbrev pub closes_on : ℕ → Stream → Stream
-closes_on number s = if is_open_on number s then moved (closed Removal) s else s
+-- A period of an endpoint as far as its Sound: what is due was picked, mixed and offered to the endpoint's device.
+pub record PicksAndSounds {E : Type 0} (moves : E → List Step → E → Type 0) (number frames : ℕ) (ends : List ℕ)
+    (whole : Bool) (old new : List (StreamEntry E)) (faults : ℕ) (told : Option (List DeviceLog)) (faults' : ℕ)
+    (told' : Option (List DeviceLog)) : Type 0 where
+  pub mid : List (StreamEntry E)
+  pub picks : AllZip (Turned moves (picks_on number frames)) old mid
+  pub sounds : Sounds moves number frames ends whole mid new faults told faults' told'
 
 -- what follows a Sound: what was picked is rendered, or the device failed and the endpoint's streams are closed
 abbrev pub ends_on : ℕ → Bool → Stream → Stream
 ends_on number true s = retires_on number s
-ends_on number false s = closes_on number s
+ends_on number false s = closes_within Removal (Some number) s
 
 -- what a period of an endpoint makes of a stream
 abbrev pub plays_on : ℕ → ℕ → Bool → Stream → Stream
 plays_on number frames whole s = ends_on number whole (picks_on number frames s)
 
--- an entry that a period may play: its position has room for the period, on the endpoint it has the endpoint's
--- channels, and its gains are in range
+-- an entry that a period may play: its position has room for the period, if it is open on the endpoint it has the
+-- endpoint's channels, and its gains are in range
 pub record IsPlayable {E : Type 0} (state : E → EndState) (number frames channels : ℕ) (e : StreamEntry E) : Type 0
   where
     pub rested : IsRested state e
     pub counts : HasRoom number frames e
-    pub fits : e.endpoint.0 ≡ number → e.channels ≡ channels
+    pub fits : e.endpoint.0 ≡ number → e.gate ≡ gate.Open → e.channels ≡ channels
     pub gains : All (λ gain. gain ≤ unit_gain) e.gains
 
 -- an entry went on as f moves its stream, by these steps of its store, for all data that agree with them
@@ -56,10 +62,10 @@ AllGo moves f steps (a ∷ xs) (b ∷ ys) = GoesBy moves f (steps a.client.0) a 
 AllGo moves f steps [] (b ∷ ys) = ⊥
 AllGo moves f steps (a ∷ xs) [] = ⊥
 
--- a position rises by a period's frames at most, and only on its endpoint if the device took all
-abbrev pub StaysNear : {E : Type 0} → ℕ → ℕ → Bool → StreamEntry E → StreamEntry E → Type 0
-StaysNear number frames whole a b =
-    b.position ≤ a.position + (if whole && a.endpoint.0 == number then frames else 0)
+-- a position rises by a period's frames at most, and only on its endpoint if the device took all; and no gate opens
+pub record StaysNear {E : Type 0} (number frames : ℕ) (whole : Bool) (a b : StreamEntry E) : Type 0 where
+  pub position : b.position ≤ a.position + (if whole && a.endpoint.0 == number then frames else 0)
+  pub opens : b.gate ≡ gate.Open → a.gate ≡ gate.Open
 
 -- A period of an endpoint over entries. By steps of their stores, and of no other client, they went on as the period
 -- moves their streams; what was picked was mixed by any mixing of these gains, and offered to the endpoint's device.

@@ -15,15 +15,15 @@ use buffer_ring::EngineSide;
 use ca_base::limits::ENDPOINTS;
 use ca_base::values::{FLOW_CAPTURE, STATE_ACTIVE};
 use ca_base::{EndpointNo, Flow, Hr, Text};
-use ca_machine::Endpoint;
 use device_io::Devices;
+use device_registry::Endpoint;
 use period_engine::Block;
 use reply_payload::Payload;
 use std::alloc::Global;
 use wave_format::{Format, read_format};
 
 /// Whether bytes are a text in UTF-8.
-fn is_text(bytes: &[u8]) -> bool
+pub fn is_text(bytes: &[u8]) -> bool
     ensures { result ≡ is_utf8 bytes.now }
 {
     str::from_utf8(bytes).is_ok()
@@ -33,10 +33,10 @@ impl Book {
     /// Whether an endpoint that is to be added has a number that isn't above all before it, no flow, or a name that is
     /// no text.
     fn is_wrong_add(&self, number: EndpointNo, flow: u8, name: &Text) -> bool
-        ensures { result ≡ (nat_le number.0 self.now.last_endpoint
+        ensures { result ≡ (nat_le number.0 self.now.registry.last
             || (nat_lt FLOW_CAPTURE flow || not (is_utf8 name.now))) }
     {
-        number.0 <= self.last_endpoint || flow > FLOW_CAPTURE || !is_text(name.as_bytes())
+        number.0 <= self.registry.last() || flow > FLOW_CAPTURE || !is_text(name.as_bytes())
     }
 }
 
@@ -54,7 +54,8 @@ impl<D, E: EngineSide> Board<D, E> {
         ensures free { OnOk result (Says self.now (λ st. add_rows st number.0 flow format.now name.now) None) }
         ensures format { IfOk result (λ f. format_at format.now ≡ Ok f) }
     {
-        if !self.book.endpoints.is_empty() || flow == FLOW_CAPTURE {
+        self.runs()?;
+        if flow == FLOW_CAPTURE {
             return Err(Hr::E_NOTIMPL);
         }
         if self.book.is_wrong_add(number, flow, name) {
@@ -63,7 +64,7 @@ impl<D, E: EngineSide> Board<D, E> {
         let Ok(format) = read_format(format) else {
             return Err(Hr::E_INVALIDARG);
         };
-        if self.book.endpoints.len() >= ENDPOINTS {
+        if self.book.registry.endpoints().len() >= ENDPOINTS {
             return Err(Hr::ENDPOINTS_FULL);
         }
         Ok(format)
@@ -88,24 +89,25 @@ impl<D: Devices, E: EngineSide> Board<D, E> {
     {
         let format = self.check_add(number, flow, format, name)?;
         let endpoint = Endpoint {
-            endpoint: number,
+            no: number,
             flow: Flow::Render,
             state: STATE_ACTIVE,
             format,
             name: *name,
-            allows_exclusive: true,
-            exclusive_first: true,
+            allow: true,
+            priority: true,
         };
         let Ok(block) = Block::new(alloc, period_frames(&endpoint), format.channels) else {
             return Err(Hr::E_OUTOFMEMORY);
         };
-        self.book.endpoints.push_reserved(endpoint);
+        let Ok(()) = self.book.registry.add(endpoint) else {
+            unreachable!();
+        };
         self.seats.push_reserved(Seat {
             endpoint: number,
             next: 0,
             block,
         });
-        self.book.last_endpoint = number.0;
         Ok(Payload::Nothing)
     }
 }

@@ -5,8 +5,9 @@ ghost use Rattle.service_board.specs.New.{IsNewBoard};
 
 use crate::Book;
 use buffer_ring::EngineSide;
-use ca_base::limits::{CLIENTS, ENDPOINTS};
+use ca_base::limits::{CLIENTS, ENDPOINTS, NOTICES};
 use ca_base::{EndpointNo, NoMemory};
+use event_notices::Notice;
 use period_engine::{Block, StreamEntry};
 use std::alloc::Global;
 
@@ -18,14 +19,16 @@ pub struct Seat {
     pub block: Block,
 }
 
-/// The devices, the book, a seat for each endpoint in the book's order, and the engine's end of each stream in the
-/// order of the clients' numbers.
+/// The devices, the book, a seat for each endpoint in the book's order, the engine's end of each stream in the order of
+/// the clients' numbers, and scratch for notices.
 #[derive(Drop)]
 pub struct Board<D, E> {
     pub devices: D,
     pub book: Book,
     pub seats: Vec<Seat>,
     pub entries: Vec<StreamEntry<E>>,
+    /// The notices of a step, or those that a connection takes, while they are told.
+    pub drafts: Vec<Notice>,
 }
 
 impl<D, E: EngineSide> Board<D, E> {
@@ -44,11 +47,15 @@ impl<D, E: EngineSide> Board<D, E> {
         let Ok(entries) = Vec::with_capacity(alloc, CLIENTS) else {
             return Err((NoMemory, devices));
         };
+        let Ok(drafts) = Vec::with_capacity(alloc, NOTICES) else {
+            return Err((NoMemory, devices));
+        };
         Ok(Board {
             devices,
             book,
             seats,
             entries,
+            drafts,
         })
     }
 }

@@ -30,6 +30,7 @@ impl<D: Devices, E: EngineSide> Board<D, E> {
         ensures { Does D.faults D.told E.moves None AnyData self.now self.now (λ st. unlisted_device_plan st)
             (code_of result) (payload_of result) }
     {
+        self.runs()?;
         Err(Hr::E_NOTIMPL)
     }
 
@@ -69,7 +70,7 @@ impl<D: Devices, E: EngineSide> Board<D, E> {
         }
     }
 
-    /// A call that asks for no memory, needs nothing of the client's side, and gives no frame a fate.
+    /// A call that opens no stream, needs nothing of the client's side, and gives no frame a fate.
     pub fn plain_call(&mut self, conn: ConnNo, call: &Call) -> Result<Payload, Hr>
         requires plain { IsPlainCall call.now }
         requires order { InOrder E.state self.old }
@@ -78,6 +79,8 @@ impl<D: Devices, E: EngineSide> Board<D, E> {
         ensures order { InOrder E.state self.new }
     {
         match call {
+            Call::GetDefault { flow, role } => self.get_default(conn, *flow, *role),
+            Call::GetDevice { id } => self.get_device(conn, id),
             Call::Activate { endpoint, role } => self.activate(conn, *endpoint, *role),
             Call::GetBufferSize { client } => self.get_buffer_size(conn, *client),
             Call::GetStreamLatency { client } => self.get_stream_latency(conn, *client),
@@ -106,15 +109,10 @@ impl<D: Devices, E: EngineSide> Board<D, E> {
             | Call::SetDisplayName { .. }
             | Call::SetIconPath { .. }
             | Call::SetGrouping { .. } => self.session_call(conn, call),
+            Call::Register { class, subject } => self.register(conn, *class, *subject),
+            Call::Unregister { registration } => self.unregister(conn, *registration),
             Call::Other { .. } => self.unlisted_call(conn),
-            Call::Release { .. }
-            | Call::Initialize { .. }
-            | Call::GetCurrentPadding { .. }
-            | Call::Reset { .. }
-            | Call::GetBuffer { .. }
-            | Call::ReleaseBuffer { .. }
-            | Call::EnumSessions { .. }
-            | Call::GetSession { .. } => unreachable!(),
+            _ => unreachable!(),
         }
     }
 }

@@ -74,6 +74,7 @@ impl<D, E: EngineSide> Board<D, E> {
     fn check_open(&self, conn: ConnNo, process: u32, name: &Text) -> Result<(), Hr>
         ensures { Says self.now (λ st. open_rows st conn.0 process name.now) (result_err result) }
     {
+        self.runs()?;
         if self.book.is_wrong_open(conn, process, name) {
             return Err(Hr::E_INVALIDARG);
         }
@@ -91,7 +92,7 @@ impl<D, E: EngineSide> Board<D, E> {
         if !is_role(role) {
             return Err(Hr::E_INVALIDARG);
         }
-        if self.book.endpoints[place].state != STATE_ACTIVE {
+        if self.book.endpoint(place).state != STATE_ACTIVE {
             return Err(Hr::DEVICE_INVALIDATED);
         }
         if self.book.clients.len() >= CLIENTS {

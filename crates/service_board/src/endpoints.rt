@@ -2,7 +2,7 @@
 
 ghost use Rattle.std.specs.Prelude.{◌≡◌, IfErr, IfOk, MatchOption, Some, None};
 ghost use Rattle.std.specs.List.{find};
-ghost use Rattle.ca_machine.specs.State.{is_endpoint};
+ghost use Rattle.device_registry.specs.Endpoints.{is_endpoint};
 ghost use Rattle.ca_machine.specs.Streams.{endpoint_rows};
 ghost use Rattle.service_board.specs.InOrder.{InOrder};
 ghost use Rattle.service_board.specs.Lookups.{FindsEndpoint, IsActiveAt, LacksActive, Says, is_disconnected};
@@ -18,7 +18,7 @@ impl Book {
         ensures { MatchOption result (LacksActive e.0 self.now) (IsActiveAt e.0 self.now) }
     {
         let at = self.endpoint_place(e)?;
-        if self.endpoints[at].state != STATE_ACTIVE {
+        if self.endpoint(at).state != STATE_ACTIVE {
             return None;
         }
         Some(at)

@@ -46,7 +46,7 @@ impl<D: Devices, E: EngineSide> Board<D, E> {
     {
         self.connected(conn)?;
         let at = self.valid_endpoint(conn, client)?;
-        Ok(Payload::Format(self.book.endpoints[at].format))
+        Ok(Payload::Format(self.book.endpoint(at).format))
     }
 
     /// IAudioClient::GetDevicePeriod: the period of shared streams, and the least one of exclusive streams, in units of
@@ -82,6 +82,6 @@ impl<D: Devices, E: EngineSide> Board<D, E> {
         if share > SHARE_EXCLUSIVE {
             return Err(Hr::E_INVALIDARG);
         }
-        support(&self.book.endpoints[at].format, format)
+        support(&self.book.endpoint(at).format, format)
     }
 }

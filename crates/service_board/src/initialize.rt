@@ -45,18 +45,19 @@ impl<D: Devices, E: EngineSide> Board<D, E> {
         let Some(from) = self.book.connection_place(x.conn) else {
             return Err(Hr::E_HANDLE);
         };
+        self.runs()?;
         x.check_later()?;
         let place = self.valid_endpoint(x.conn, x.client)?;
         if self.entry_place(x.client).is_some() {
             return Err(Hr::ALREADY_INITIALIZED);
         }
         x.check_arguments()?;
-        let endpoint = &self.book.endpoints[place];
+        let endpoint = self.book.endpoint(place);
         let format = x.format_for(&endpoint.format)?;
-        let key = x.session_key(&self.book.connections[from], endpoint.endpoint);
+        let key = x.session_key(&self.book.connections[from], endpoint.no);
         self.book.sessions.check_join(&key)?;
         Ok(OpeningPlan {
-            endpoint: endpoint.endpoint,
+            endpoint: endpoint.no,
             format,
             buffer: shared_buffer(format.rate, x.duration),
             key,

@@ -1,8 +1,9 @@
 //! Clients that leave: Release and Hangup (this project's own). Their streams go with them, and sessions without one.
 
-ghost use Rattle.std.specs.Prelude.{◌≡◌, ◌==◌, filter, not, None};
+ghost use Rattle.std.specs.Prelude.{◌≡◌, ◌-◌, ◌≤◌, ◌==◌, filter, length, not, slice_set, None};
 ghost use Rattle.std.specs.List.{All, AllZip, list_any};
 ghost use Rattle.std.specs.Vec.{vec_capacity};
+ghost use Rattle.event_notices.specs.Notices.{no_notices};
 ghost use Rattle.session_manager.specs.Sessions.{remaining};
 ghost use Rattle.ca_machine.specs.Clients.{hangup_plan, is_client_on, release_plan};
 ghost use Rattle.ca_machine.specs.State.{is_client_of, is_connection};
@@ -17,6 +18,7 @@ use buffer_ring::EngineSide;
 use ca_base::{ClientNo, ConnNo, Gate, Hr, Reason, SessionNo};
 use ca_machine::{Client, Connection};
 use device_io::Devices;
+use event_notices::NoticeQueue;
 use period_engine::StreamEntry;
 use reply_payload::Payload;
 use session_manager::SessionBook;
@@ -103,6 +105,15 @@ fn drop_connection(connections: &mut Vec<Connection>, conn: ConnNo)
     connections.retain(|c| c.conn != conn);
 }
 
+/// Drops what a connection registered for, and the notices that it kept.
+fn drop_notices(all: &mut [NoticeQueue], conn: ConnNo)
+    requires least { 1 ≤ conn.0 }
+    requires most { conn.0 ≤ length all.old }
+    ensures { all.new ≡ slice_set all.old (conn.0 - 1) no_notices }
+{
+    all[conn.0 as usize - 1].clear();
+}
+
 impl<D, E: EngineSide> Board<D, E> {
     /// Takes away what belongs to no live client: streams, whose stores are closed, and sessions without a stream.
     fn forget_gone(&mut self)
@@ -138,9 +149,10 @@ impl<D: Devices, E: EngineSide> Board<D, E> {
         ensures order { InOrder E.state self.new }
         ensures closed { AreClosed E.moves self.old.entries.items self.new.entries.items }
     {
-        self.connected(conn)?;
+        self.known(conn)?;
         drop_clients(&mut self.book.clients, conn);
         drop_connection(&mut self.book.connections, conn);
+        drop_notices(&mut self.book.notices, conn);
         self.forget_gone();
         Ok(Payload::Nothing)
     }

@@ -26,7 +26,7 @@ impl<D: Devices, E: EngineSide> Board<D, E> {
         ensures does { Does D.faults D.told E.moves None AnyData self.now self.now
             (λ st. get_stream_level_plan st conn.0 client.0 channel) (code_of result) (payload_of result) }
     {
-        let place = self.live_client(conn, client)?;
+        let place = self.control_client(conn, client)?;
         let at = self.open_stream(conn, client)?;
         if channel >= self.entries[at].channels as u32 {
             return Err(Hr::E_INVALIDARG);
@@ -49,7 +49,7 @@ impl<D: Devices, E: EngineSide> Board<D, E> {
             (λ st. set_stream_level_plan st conn.0 client.0 channel level) (code_of result) (payload_of result) }
         ensures order { InOrder E.state self.new }
     {
-        let place = self.live_client(conn, client)?;
+        let place = self.control_client(conn, client)?;
         let at = self.open_stream(conn, client)?;
         if channel >= self.entries[at].channels as u32 || level > MAX_LEVEL {
             return Err(Hr::E_INVALIDARG);

@@ -1,19 +1,26 @@
 //! Look-ups of a call: whom it names. A look-up that fails tells the code of the call's row.
 
-ghost use Rattle.std.specs.Prelude.{◌≡◌, IfErr, IfOk, Some, None};
+ghost use Rattle.std.specs.Prelude.{◌≡◌, ◌<◌, IfErr, IfOk, Some, None, length, slice_index_or};
 ghost use Rattle.std.specs.Result.{result_err};
 ghost use Rattle.std.specs.List.{list_any, position};
-ghost use Rattle.ca_machine.specs.SharedRows.{control_rows};
-ghost use Rattle.ca_machine.specs.State.{is_client_of, is_connection, is_endpoint};
+ghost use Rattle.ca_machine.specs.SharedRows.{connection_rows, control_rows, shut_rows};
+ghost use Rattle.ca_machine.specs.State.{is_client_of, is_connection};
+ghost use Rattle.device_registry.specs.Endpoints.{is_endpoint};
 ghost use Rattle.service_board.specs.InOrder.{InOrder, IsBook};
 ghost use Rattle.service_board.specs.Lookups.{FindsClient, FindsStream, Says};
-ghost use Rattle.service_board.specs.Lookups.{client_call_rows, is_entry_of, stream_call_rows};
+ghost use Rattle.service_board.specs.Lookups.{
+  client_call_rows,
+  client_control_rows,
+  is_entry_of,
+  stream_call_rows,
+};
 
 use crate::search::{client_at, entry_at};
 use crate::{Board, Book};
 use buffer_ring::EngineSide;
 use ca_base::{ClientNo, ConnNo, EndpointNo, Hr};
 use client_state::gate_refusal;
+use device_registry::Endpoint;
 
 impl Book {
     /// Whether a connection is open.
@@ -33,9 +40,17 @@ impl Book {
 
     /// The place of an endpoint.
     pub fn endpoint_place(&self, e: EndpointNo) -> Option<usize>
-        ensures { result ≡ position (is_endpoint e.0) self.now.endpoints.items }
+        ensures { result ≡ position (is_endpoint e.0) self.now.registry.list }
     {
-        self.endpoints.iter().position(|x| x.endpoint == e)
+        self.registry.place(e)
+    }
+
+    /// The endpoint at a place.
+    pub fn endpoint(&self, at: usize) -> &Endpoint
+        requires { at < length self.now.registry.list }
+        ensures { result.now ≡ slice_index_or self.now.registry.list at result.now }
+    {
+        &self.registry.endpoints()[at]
     }
 }
 
@@ -48,14 +63,32 @@ impl<D, E: EngineSide> Board<D, E> {
         entry_at(&self.entries, client)
     }
 
-    /// Whether a control call's connection is open.
-    pub fn connected(&self, conn: ConnNo) -> Result<(), Hr>
-        ensures { Says self.now (control_rows conn.0) (result_err result) }
+    /// Whether the connection is open of a call that is answered after a shutdown too.
+    pub fn known(&self, conn: ConnNo) -> Result<(), Hr>
+        ensures { Says self.now (connection_rows conn.0) (result_err result) }
     {
         if !self.book.is_connected(conn) {
             return Err(Hr::E_HANDLE);
         }
         Ok(())
+    }
+
+    /// Whether the service runs.
+    pub fn runs(&self) -> Result<(), Hr>
+        ensures { Says self.now shut_rows (result_err result) }
+    {
+        if self.book.is_shut {
+            return Err(Hr::SERVICE_NOT_RUNNING);
+        }
+        Ok(())
+    }
+
+    /// Whether a control call's connection is open, and the service runs.
+    pub fn connected(&self, conn: ConnNo) -> Result<(), Hr>
+        ensures { Says self.now (control_rows conn.0) (result_err result) }
+    {
+        self.known(conn)?;
+        self.runs()
     }
 
     /// The place in the book of a call's client, which is a live client of the connection. A live client's connection is
@@ -71,13 +104,26 @@ impl<D, E: EngineSide> Board<D, E> {
         }
     }
 
+    /// The same for a control call that isn't answered after a shutdown.
+    pub fn control_client(&self, conn: ConnNo, client: ClientNo) -> Result<usize, Hr>
+        requires order { InOrder E.state self.now }
+        ensures refused { IfErr result (λ code. Says self.now (client_control_rows conn.0 client.0) (Some code)) }
+        ensures found { IfOk result (λ at. FindsClient conn.0 client.0 self.now at
+            × Says self.now (client_control_rows conn.0 client.0) None) }
+    {
+        if self.book.is_shut {
+            self.connected(conn)?;
+        }
+        self.live_client(conn, client)
+    }
+
     /// The place of the entry of a call's client, whose stream is open.
     pub fn open_stream(&self, conn: ConnNo, client: ClientNo) -> Result<usize, Hr>
         requires order { InOrder E.state self.now }
         ensures refused { IfErr result (λ code. Says self.now (stream_call_rows conn.0 client.0) (Some code)) }
         ensures found { IfOk result (FindsStream conn.0 client.0 self.now) }
     {
-        self.live_client(conn, client)?;
+        self.control_client(conn, client)?;
         let Some(at) = self.entry_place(client) else {
             return Err(Hr::NOT_INITIALIZED);
         };

@@ -103,7 +103,7 @@ pub fn shared_period(rate: u32) -> u32
 }
 
 /// Whether formats have the same channels and rate.
-fn matches(a: &Format, b: &Format) -> bool
+pub fn matches(a: &Format, b: &Format) -> bool
     ensures { result ≡ matches a.now b.now }
 {
     a.channels == b.channels && a.rate == b.rate

@@ -7,16 +7,19 @@ ghost use Rattle.service_board.specs.Does.{AnyData, Does};
 ghost use Rattle.service_board.specs.Due.{FindsDue};
 ghost use Rattle.service_board.specs.InOrder.{InOrder};
 ghost use Rattle.service_board.specs.Lookups.{Says};
+ghost use Rattle.service_board.specs.Telling.{NotesFailure};
 
 use crate::Board;
-use crate::plays::play;
+use crate::plays::{close_failed, play};
 use buffer_ring::EngineSide;
 use ca_base::limits::{MAX_COUNT, MAX_LEVEL, SHARED_PERIOD};
 use ca_base::values::{STATE_ACTIVE, STATE_NOTPRESENT};
 use ca_base::{EndpointNo, Failed, Hr};
-use ca_machine::Endpoint;
 use device_io::Devices;
+use device_registry::Endpoint;
+use period_engine::{StreamEntry, retire};
 use reply_payload::Payload;
+use step_notices::Noted;
 use wave_format::frames_of;
 
 /// The gain of each channel of an endpoint: none changes anything.
@@ -37,10 +40,11 @@ impl<D: Devices, E: EngineSide> Board<D, E> {
         ensures refused { IfErr result (λ code. Says self.now (λ st. (period_plan st e.0).rows) (Some code)) }
         ensures found { IfOk result (FindsDue e.0 self.now) }
     {
+        self.runs()?;
         let Some(at) = self.book.endpoint_place(e) else {
             return Err(Hr::E_NOTFOUND);
         };
-        let endpoint = &self.book.endpoints[at];
+        let endpoint = self.book.endpoint(at);
         if endpoint.state != STATE_ACTIVE {
             return Err(Hr::DEVICE_INVALIDATED);
         }
@@ -53,41 +57,39 @@ impl<D: Devices, E: EngineSide> Board<D, E> {
     }
 
     /// A period of an endpoint: what is due of its streams is played, with the gains of their levels. If the device
-    /// fails, its streams are closed, and the endpoint is NOTPRESENT.
-    pub fn period(&mut self, e: EndpointNo) -> Result<Payload, Hr>
+    /// fails, its streams are closed, and the endpoint is NOTPRESENT; then, and only then, `before` is what there was of
+    /// the service before the period.
+    pub fn period(&mut self, e: EndpointNo, before: &mut Option<Noted>) -> Result<Payload, Hr>
         requires order { InOrder E.state self.old }
         ensures does { Does D.faults D.told E.moves None AnyData self.old self.new
             (λ st. period_plan st e.0) (code_of result) (payload_of result) }
         ensures order { InOrder E.state self.new }
         ensures plays { IfOk result IsPeriod }
+        ensures notes { NotesFailure result before.old before.new self.old }
     {
         self.refresh_gains();
-        self.play_due(e)
+        self.play_due(e, before)
     }
 
     /// The same, with gains that are those of the levels.
-    fn play_due(&mut self, e: EndpointNo) -> Result<Payload, Hr>
+    fn play_due(&mut self, e: EndpointNo, before: &mut Option<Noted>) -> Result<Payload, Hr>
         requires order { InOrder E.state self.old }
         requires fresh { self.old.book.levels_changed ≡ false }
         ensures does { Does D.faults D.told E.moves None AnyData self.old self.new
             (λ st. period_plan st e.0) (code_of result) (payload_of result) }
         ensures order { InOrder E.state self.new }
         ensures plays { IfOk result IsPeriod }
+        ensures notes { NotesFailure result before.old before.new self.old }
     {
         let at = self.due(e)?;
-        let endpoint = &self.book.endpoints[at];
+        let endpoint = self.book.endpoint(at);
         let frames = period_frames(endpoint);
         let ends = &END_GAINS[..endpoint.format.channels as usize];
         let seat = &mut self.seats[at];
-        match play(
-            &mut self.entries,
-            e,
-            frames,
-            ends,
-            &mut seat.block,
-            &mut self.devices,
-        ) {
+        let entries: &mut [StreamEntry<E>] = &mut self.entries;
+        match play(entries, e, frames, ends, &mut seat.block, &mut self.devices) {
             Ok(()) => {
+                retire(entries, e);
                 seat.next += frames as u64;
                 Ok(Payload::Period {
                     frames,
@@ -95,7 +97,10 @@ impl<D: Devices, E: EngineSide> Board<D, E> {
                 })
             }
             Err(Failed) => {
-                self.book.endpoints[at].state = STATE_NOTPRESENT;
+                close_failed(entries, e, &self.book, before);
+                let Ok(()) = self.book.registry.set_state(e, STATE_NOTPRESENT) else {
+                    unreachable!();
+                };
                 Ok(Payload::Period {
                     frames: 0,
                     failed: true,

@@ -1,45 +1,28 @@
-//! The sub-steps of a period over the engine's ends of streams: picks, the Sound, and what follows it.
+//! The sub-steps of a period over the engine's ends of streams: picks, the Sound, and what follows it if the device
+//! fails.
 
-ghost use Rattle.std.specs.Prelude.{◌≡◌, ℕ, ◌*◌, ◌≤◌, is_ok, length};
+ghost use Rattle.std.specs.Prelude.{◌≡◌, ◌*◌, ◌≤◌, Some, is_ok, length};
 ghost use Rattle.std.specs.List.{All, AllZip};
+ghost use Rattle.ca_base.specs.declared.ids.Reason.TheVariants.{Removal};
+ghost use Rattle.ca_base.specs.declared.limits.TheConstants.{CLIENTS};
 ghost use Rattle.period_engine.specs.Entries.{AreEntries, IsPicked, IsRested};
 ghost use Rattle.period_engine.specs.Sounds.{AreEnds};
 ghost use Rattle.period_engine.specs.SubSteps.{Turned};
-ghost use Rattle.service_board.specs.Plays.{IsPlayable, Plays, closes_on};
+ghost use Rattle.service_board.specs.Closing.{IsClosable, closes_within};
+ghost use Rattle.service_board.specs.Plays.{IsPlayable, PicksAndSounds};
+ghost use Rattle.service_board.specs.Telling.{noted_with};
 
+use crate::Book;
+use crate::closing::close_all;
 use buffer_ring::EngineSide;
-use ca_base::{EndpointNo, Failed, Gate, Reason};
+use ca_base::{EndpointNo, Failed, Reason};
 use device_io::Devices;
-use period_engine::{Block, StreamEntry, pick, retire, sound};
+use period_engine::{Block, StreamEntry, pick, sound};
+use step_notices::Noted;
 
-/// Closes an entry's stream, if it is open on endpoint `e`: what it had pending is dropped.
-fn close<E: EngineSide>(entry: &mut StreamEntry<E>, e: EndpointNo)
-    requires { (p : ℕ) × IsPicked E.state e.0 p entry.old }
-    ensures turned { Turned E.moves (closes_on e.0) entry.old entry.new }
-    ensures rested { IsRested E.state entry.new }
-{
-    if entry.endpoint == e && entry.gate == Gate::Open {
-        entry.store.close(Reason::Removal);
-        entry.gate = Gate::Closed(Reason::Removal);
-        entry.running = false;
-        entry.picked = 0;
-    }
-}
-
-/// Closes each stream that is open on endpoint `e`, whose device failed.
-fn close_all<E: EngineSide>(all: &mut [StreamEntry<E>], e: EndpointNo)
-    requires { (p : ℕ) × All (IsPicked E.state e.0 p) all.old }
-    ensures turned { AllZip (Turned E.moves (closes_on e.0)) all.old all.new }
-    ensures rested { All (IsRested E.state) all.new }
-{
-    for entry in all.iter_mut() {
-        close(entry, e);
-    }
-}
-
-/// A period of endpoint `e` over all entries, of `p` frames: what is due is picked, mixed and offered to the endpoint's
-/// device, and then rendered; if the device fails, the endpoint's streams are closed. `ends` has the gain of each of
-/// the endpoint's channels.
+/// Plays what is due in a period of endpoint `e`, of `p` frames, over all entries: it is picked, mixed and offered to
+/// the endpoint's device. What was picked is still to be rendered, or closed if the device failed. `ends` has the gain
+/// of each of the endpoint's channels.
 pub fn play<D: Devices, E: EngineSide>(
     all: &mut [StreamEntry<E>],
     e: EndpointNo,
@@ -52,20 +35,29 @@ pub fn play<D: Devices, E: EngineSide>(
     requires playable { All (IsPlayable E.state e.0 p (length ends.now)) all.old }
     requires ends { AreEnds ends.now }
     requires block { p * length ends.now ≤ block.old.samples }
-    ensures plays { Plays E.moves e.0 p ends.now (is_ok result) all.old all.new
+    ensures sounds { PicksAndSounds E.moves e.0 p ends.now (is_ok result) all.old all.new
         (D.faults devices.old) (D.told devices.old) (D.faults devices.new) (D.told devices.new) }
-    ensures rested { All (IsRested E.state) all.new }
+    ensures picked { All (IsPicked E.state e.0 p) all.new }
     ensures block { block.new ≡ block.old }
 {
     pick(all, e, p);
-    match sound(all, e, p, ends, block, devices) {
-        Ok(()) => {
-            retire(all, e);
-            Ok(())
-        }
-        Err(failed) => {
-            close_all(all, e);
-            Err(failed)
-        }
-    }
+    sound(all, e, p, ends, block, devices)
+}
+
+/// Closes the streams of endpoint `e`, whose device failed; before that it is noted what there is of the service.
+#[cold]
+pub fn close_failed<E: EngineSide>(
+    all: &mut [StreamEntry<E>],
+    e: EndpointNo,
+    book: &Book,
+    before: &mut Option<Noted>,
+)
+    requires few { length all.old ≤ CLIENTS }
+    requires closable { All (IsClosable E.state (Some e.0)) all.old }
+    ensures notes { before.new ≡ Some (noted_with book.now all.old) }
+    ensures turned { AllZip (Turned E.moves (closes_within Removal (Some e.0))) all.old all.new }
+    ensures rested { All (IsRested E.state) all.new }
+{
+    *before = Some(book.noted(all));
+    close_all(all, Some(e), Reason::Removal);
 }

@@ -1,4 +1,4 @@
--- An event that was answered by its plan is an entry of the machine's run; a new service stands for the empty state.
+-- An event that was answered by the machine's step is an entry of the machine's run; a new service stands for the empty state.
 use Rattle.std.proofs.Common.{◌≡◌, ℕ, List, Option, ap, refl, subst, sym, ◌∙◌}
 use Rattle.std.specs.List.{All}
 use Rattle.std.proofs.lemmas.List.Elements.{All-nil}
@@ -9,18 +9,18 @@ use Rattle.buffer_ring.specs.Kept.{Kept}
 use Rattle.buffer_ring.specs.declared.step.EndState.{EndState}
 use Rattle.ca_stage.specs.Tally.{Tally, no_tally}
 use Rattle.ca_machine.specs.State.{empty_state}
-use Rattle.ca_machine.specs.Step.{plan, step}
+use Rattle.ca_machine.specs.Step.{step}
 use Rattle.ca_machine.specs.View.{AnswersEvent, MachineView}
 use Rattle.service_board.specs.New.{IsNewBoard}
 use Rattle.service_board.specs.declared.board.Board.{Board}
 use Rattle.service_core.specs.Core.{HasSide, core_datas, core_state}
-use Rattle.service_core.specs.Service.{AnswersPlan, HasHead, IsCore}
+use Rattle.service_core.specs.Service.{AnswersStep, HasHead, IsCore}
 use Rattle.service_core.specs.declared.both_ends.BothEnds.{BothEnds}
 
 -- the entry has the reply's result and payload, and the moves and the output of the step
 pub asked : {D : Type 0} (faults : D → ℕ) (told : D → Option (List DeviceLog)) (old new : MachineView D)
     (event : Event) (reply : Reply) → HasHead event reply →
-    AnswersPlan faults told (λ st. plan st event) reply.result reply.payload.list old new →
+    AnswersStep faults told event reply.result reply.payload.list old new →
     AnswersEvent faults told old event reply new
 asked faults told old new event reply head got = record {
   entry = record {

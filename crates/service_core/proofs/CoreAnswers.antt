@@ -22,7 +22,7 @@ use Rattle.service_core.specs.declared.both_ends.BothEnds.{BothEnds}
 use Rattle.service_core.specs.declared.tally.Tally.{Tally as Counts}
 use Rattle.service_core.proofs.CoreSteps.{core_goes, core_sides}
 use Rattle.service_core.proofs.CoreCounts.{goes_still}
-use Rattle.service_core.proofs.EventsFall.{Keeps}
+use Rattle.service_core.proofs.PlansFall.{Keeps}
 use Rattle.service_core.proofs.TallyStays.{LeavesTally}
 
 -- the views of a service, before and after

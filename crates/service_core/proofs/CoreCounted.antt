@@ -30,16 +30,8 @@ use Rattle.service_core.specs.declared.both_ends.BothEnds.{BothEnds}
 use Rattle.service_core.specs.declared.pending.Streams.TheVariants as streams
 use Rattle.service_core.proofs.CoreSteps.{each_of}
 use Rattle.service_core.proofs.CoreAnswers.{board_core, board_goes}
-use Rattle.service_core.proofs.CoreCounts.{
-  goes_around,
-  goes_dropped,
-  goes_nothing,
-  goes_reset,
-  goes_taking,
-  pending_is,
-  taken,
-}
-use Rattle.service_core.proofs.EventsFall.{Keeps}
+use Rattle.service_core.proofs.CoreCounts.{goes_around, goes_dropped, goes_nothing, goes_reset, goes_taking, pending_is, taken}
+use Rattle.service_core.proofs.PlansFall.{Keeps}
 use Rattle.service_core.proofs.PendingWords.{around_state}
 use Rattle.service_core.proofs.TallyFalls.{open_padding}
 use Rattle.service_core.proofs.TallyOutcomes.{WereDropped, WereReset, WereTaken}

@@ -1,29 +1,6 @@
 -- What an event does on a board is the machine's step on the state of both ends: the stores went by their steps, with
 -- which the data of both ends agree.
-use Rattle.std.proofs.Common.{
-  ◌≡◌,
-  ℕ,
-  ◌-◌,
-  ◌*◌,
-  ◌≤◌,
-  List,
-  [],
-  ◌∷◌,
-  length,
-  map,
-  find,
-  Option,
-  Some,
-  None,
-  IfSome,
-  refl,
-  sym,
-  ap,
-  ap₂,
-  subst,
-  ◌∙◌,
-  arith,
-}
+use Rattle.std.proofs.Common.{◌≡◌, ℕ, ◌-◌, ◌*◌, ◌≤◌, List, [], ◌∷◌, length, map, find, Option, Some, None, IfSome, refl, sym, ap, ap₂, subst, ◌∙◌, arith}
 use Rattle.std.specs.List.{All, AllByRecursion}
 use Rattle.std.proofs.lemmas.List.Elements.{All-nil, All-cons, All-head, All-tail}
 use Rattle.std.specs.Option.{option_map, option_map_or}
@@ -55,17 +32,9 @@ use Rattle.service_core.specs.BothEnds.{MovesStore}
 use Rattle.service_core.specs.Core.{Goes, HasSide, HaveSides, IsFresh, core_data, core_datas, core_state}
 use Rattle.service_core.specs.declared.both_ends.BothEnds.{BothEnds}
 use Rattle.service_core.proofs.StoreData.{data_of, runs_agree, runs_data}
-use Rattle.service_core.proofs.EntryData.{
-  entry_at,
-  each_entry,
-  entry_client,
-  store_found,
-  channels_found,
-  stream_found,
-  data_found,
-}
+use Rattle.service_core.proofs.EntryData.{entry_at, each_entry, entry_client, store_found, channels_found, stream_found, data_found}
 use Rattle.service_core.proofs.StreamsFall.{AllFell, Fell}
-use Rattle.service_core.proofs.EventsFall.{Keeps}
+use Rattle.service_core.proofs.PlansFall.{Keeps}
 
 -- what a client's side knows of a stream, by what it was opened as
 abbrev side_with : Stream → ℕ → Option ℕ → ClientSide

@@ -35,19 +35,7 @@ use Rattle.service_board.proofs.OneEntry.{IsSole, sole_there}
 use Rattle.service_board.proofs.StreamMoves.{ChangesOne, order_kept}
 use Rattle.service_core.proofs.ReleaseRows.{get_passes, release_passes}
 use Rattle.service_core.proofs.DataSteps.{core_stream, data_moved, data_row_refused, data_told}
-use Rattle.service_core.proofs.DataEntries.{
-  leased_rested,
-  leased_side,
-  leased_stream,
-  looked_rested,
-  looked_side,
-  looked_stream,
-  released_rested,
-  released_side,
-  released_stream,
-  rows_seen,
-  same_but_store,
-}
+use Rattle.service_core.proofs.DataEntries.{leased_rested, leased_side, leased_stream, looked_rested, looked_side, looked_stream, released_rested, released_side, released_stream, rows_seen, same_but_store}
 
 module _ {D F : Type 0} (faults : D → ℕ) (told : D → Option (List DeviceLog)) (kept : F → Kept) (state : F → EndState)
     (whole : (x : F) → state_of (kept x) ≡ state x) (conn client : ℕ) (old new : Board D (BothEnds F)) (at : ℕ)
@@ -78,8 +66,8 @@ module _ {D F : Type 0} (faults : D → ℕ) (told : D → Option (List DeviceLo
   still_in_order : IsRested (λ ends. state ends.store) b → InOrder (λ ends. state ends.store) new
   still_in_order rests =
       let before : b.position ≡ a.position = ap (λ e. e.position) same in
-      order_kept (λ ends. state ends.store) old new at a b is_here one (same_but_store a b same) rests
-      (omega (arith, before)) order
+      order_kept (λ ends. state ends.store) old new at a b is_here (λ opens. sym (ap (λ e. e.gate) same) ∙ opens) one
+      (same_but_store a b same) rests (omega (arith, before)) order
 
   still_sides : HasSide kept b → HaveSides kept new
   still_sides has =

@@ -1,107 +1,33 @@
 -- Each event but a data call leaves streams as they were opened, with no more frames pending.
 use Rattle.std.proofs.Common.{ℕ, ◌||◌, not, List, [], ◌∷◌, ◌++◌, filter, Bool, true, false, Option, Some, None}
-use Rattle.std.proofs.Common.{if◌then◌else◌}
+use Rattle.std.proofs.Common.{if◌then◌else◌, option_map}
 use Rattle.std.specs.List.{AllByRecursion}
 use Rattle.std.specs.Int.{w32, w64, to_le_bytes}
-use Rattle.ca_base.specs.declared.codes.Hr.{Hr}
 use Rattle.ca_base.specs.declared.codes.TheConstants.Hr as hr
-use Rattle.ca_base.specs.Rows.{Row, first}
+use Rattle.ca_base.specs.Rows.{first}
 use Rattle.ca_model.specs.declared.event.Event.{Event}
 use Rattle.ca_model.specs.declared.event.Event.TheVariants as event
 use Rattle.ca_model.specs.declared.event.Call.{Call}
 use Rattle.ca_model.specs.declared.event.Call.TheVariants as call
-use Rattle.ca_model.specs.declared.event.DeviceEvent.{DeviceEvent}
-use Rattle.ca_model.specs.declared.event.DeviceEvent.TheVariants as device
 use Rattle.wave_format.specs.Format.{spelled}
-use Rattle.ca_stage.specs.Stage.{Stream, padding}
-use Rattle.ca_stage.specs.Moves.{StreamMove, started, stopped, reset, added, opened, of_client, Mixing, after_moves}
-use Rattle.ca_stage.specs.Moves.{sub_steps, stream_at}
-use Rattle.session_manager.specs.declared.session.Session.{Session}
+use Rattle.device_registry.specs.declared.endpoint.Endpoint.{Endpoint}
+use Rattle.ca_stage.specs.Stage.{padding}
+use Rattle.ca_stage.specs.Moves.{started, stopped, reset, opened, Mixing, after_moves, sub_steps, stream_at}
 use Rattle.session_manager.specs.Sessions.{number_joined, session_at}
 use Rattle.ca_machine.specs.declared.state.Client.{Client}
-use Rattle.ca_machine.specs.declared.state.Endpoint.{Endpoint}
 use Rattle.ca_machine.specs.State.{State, live_clients, client_of, endpoint_at, is_client_of, session_list}
-use Rattle.ca_machine.specs.Plan.{
-  Outcome,
-  Plan,
-  Answer,
-  outcome_of,
-  answered,
-  granted,
-  unless_refused,
-  if_found,
-  plain,
-  with_memory,
-  moved,
-  is_whole,
-}
-use Rattle.ca_machine.specs.Plan.Answer.{out_of_memory}
-use Rattle.ca_machine.specs.SharedRows.{endpoint_of, with_stream, with_endpoint}
+use Rattle.ca_machine.specs.Plan.{Answer, answered, moved, is_whole}
+use Rattle.ca_machine.specs.SharedRows.{endpoint_of, with_endpoint}
 use Rattle.ca_machine.specs.Clients.{closes, leaving, hangup_plan, is_client_on, without_connection}
-use Rattle.ca_machine.specs.Streams.{
-  Opening,
-  initialized,
-  new_stream,
-  session_key,
-  stream_level,
-  supported,
-  is_faulty,
-  matches,
-  format_payload,
-  with_stream_level,
-}
+use Rattle.ca_machine.specs.Endpoints.{default_at, endpoint_named, endpoint_told, number_told}
+use Rattle.ca_machine.specs.Streams.{Opening, initialized, new_stream, session_key, stream_level, supported, is_faulty, matches, format_payload, with_stream_level}
 use Rattle.ca_machine.specs.Sessions.{session_payload, state_of_session, with_session}
 use Rattle.ca_machine.specs.Periods.{after_period, mixing_of, period_of, period_rows, sounding}
-use Rattle.ca_machine.specs.Step.{call_plan, device_plan, plan}
+use Rattle.ca_machine.specs.Step.{call_plan, plan}
 use Rattle.ca_machine.proofs.PeriodMoves.{OfSubSteps, sub_steps_all}
-use Rattle.service_core.proofs.StreamsFall.{IsStreamControl, IsControl, AllFell, all_still, all_moved, all_present}
-
--- an outcome does so, and a plan, whatever it is answered
-abbrev pub Leaves : State → Outcome → Type 0
-Leaves st o = AllFell st.stage o.after.stage
-
-pub record Keeps (st : State) (p : Plan) : Type 0 where
-  pub leaves : (given : List Answer) → Leaves st (outcome_of st p given)
-
-leaves_unless : (st : State) (verdict : Option Hr) (o : Outcome) → Leaves st o →
-    Leaves st (unless_refused st verdict o)
-leaves_unless st None o h = h
-leaves_unless st (Some code) o h = all_still st.stage
-
-keeps_plain : (st : State) (rows : List (Row Hr)) (o : Outcome) → Leaves st o → Keeps st (plain rows o)
-keeps_plain st rows o h = record { leaves = λ given. leaves_unless st (first rows) o h }
-
-if_memory : (st : State) (o : Outcome) (given : List Answer) → Leaves st o → Leaves st (if_found st o given)
-if_memory st o (out_of_memory ∷ given) h = all_still st.stage
-if_memory st o _ h = h
-
-keeps_memory : (st : State) (rows : List (Row Hr)) (o : Outcome) → Leaves st o → Keeps st (with_memory st rows o)
-keeps_memory st rows o h =
-    record { leaves = λ given. leaves_unless st (first rows) (if_found st o given) (if_memory st o given h) }
-
-of_stream : (st : State) (s : Option Stream) (f : Stream → Outcome) → ((s : Stream) → Leaves st (f s)) →
-    Leaves st (with_stream st s f)
-of_stream st None f h = all_still st.stage
-of_stream st (Some s) f h = h s
-
-of_endpoint : (st : State) (e : Option Endpoint) (f : Endpoint → Outcome) → ((e : Endpoint) → Leaves st (f e)) →
-    Leaves st (with_endpoint st e f)
-of_endpoint st None f h = all_still st.stage
-of_endpoint st (Some e) f h = h e
-
--- a call of a stream that changes nothing, and one that moves it
-keeps_tells : (st : State) (rows : List (Row Hr)) (s : Option Stream) (payload : Stream → List ℕ) →
-    Keeps st (plain rows (with_stream st s (λ s. answered st (payload s))))
-keeps_tells st rows s payload =
-    keeps_plain st rows (with_stream st s (λ s. answered st (payload s)))
-    (of_stream st s (λ s. answered st (payload s)) (λ s. all_still st.stage))
-
-keeps_moves : (st : State) (rows : List (Row Hr)) (s : Option Stream) (client : ℕ) (m : StreamMove) →
-    IsStreamControl m → Keeps st (plain rows (with_stream st s (λ s. granted [] (of_client client m ∷ []) st)))
-keeps_moves st rows s client m control =
-    keeps_plain st rows (with_stream st s (λ s. granted [] (of_client client m ∷ []) st))
-    (of_stream st s (λ s. granted [] (of_client client m ∷ []) st)
-    (λ s. all_moved st.stage (of_client client m ∷ []) (control, tt)))
+use Rattle.service_core.proofs.DevicesFall.{keeps_device, keeps_shutdown}
+use Rattle.service_core.proofs.PlansFall.{Keeps, Leaves, keeps_memory, keeps_moves, keeps_plain, keeps_still, keeps_tells, leaves_unless, of_endpoint, of_number, of_session, of_told}
+use Rattle.service_core.proofs.StreamsFall.{IsControl, AllFell, all_still, all_moved, all_present}
 
 -- clients that go
 closes_control : (clients : List Client) → AllByRecursion IsControl (closes clients)
@@ -120,18 +46,6 @@ of_opening st conn (Some client) x =
     all_moved st.stage
     (opened (new_stream client x (number_joined (session_key st conn client x) (session_list st))) ∷ []) (tt, tt)
 
--- a session
-of_session : (st : State) (s : Option Session) (f : Session → Outcome) → ((s : Session) → Leaves st (f s)) →
-    Leaves st (with_session st s f)
-of_session st None f h = all_still st.stage
-of_session st (Some s) f h = h s
-
-keeps_still : (st : State) (rows : List (Row Hr)) (s : Option Stream) (after : State) → AllFell st.stage after.stage →
-    Keeps st (plain rows (with_stream st s (λ s. granted [] [] after)))
-keeps_still st rows s after h =
-    keeps_plain st rows (with_stream st s (λ s. granted [] [] after))
-    (of_stream st s (λ s. granted [] [] after) (λ s. h))
-
 -- a period
 of_failed : (number : ℕ) (whole : Bool) (st after : State) → AllFell st.stage after.stage →
     AllFell st.stage (after_period number whole after).stage
@@ -148,7 +62,7 @@ of_sound st m given =
     (sub_steps_all IsControl period_control m (is_whole given) tt st.stage))
 
 of_period : (st : State) (e : Option Endpoint) → Keeps st (period_of st e)
-of_period st None = record { leaves = λ given. all_still st.stage }
+of_period st None = keeps_plain st _ _ (all_still st.stage)
 of_period st (Some e) = record {
   leaves = λ given. leaves_unless st (first (period_rows st e)) (sounding st (mixing_of st e) given)
       (of_sound st (mixing_of st e) given);
@@ -170,6 +84,18 @@ IsControlEvent (event.Call c tag x) = IsControlCall x
 IsControlEvent _ = Unit {0}
 
 of_call : (st : State) (conn : ℕ) (x : Call) → IsControlCall x → Keeps st (call_plan st conn x)
+of_call st conn (call.EnumEndpoints flow mask) control = keeps_plain st _ _ (all_still st.stage)
+of_call st conn (call.GetDefault flow role) control =
+    keeps_plain st _ (number_told st (default_at flow role st)) (of_number st (default_at flow role st))
+of_call st conn (call.GetDevice id) control =
+    keeps_plain st _ (number_told st (option_map (λ e. e.no.0) (endpoint_named id st)))
+    (of_number st (option_map (λ e. e.no.0) (endpoint_named id st)))
+of_call st conn (call.DeviceInfo e) control =
+    keeps_plain st _ (endpoint_told st (endpoint_at e.0 st)) (of_told st (endpoint_at e.0 st))
+of_call st conn (call.Register class subject) control = keeps_memory st _ _ (all_still st.stage)
+of_call st conn (call.Unregister number) control = keeps_plain st _ _ (all_still st.stage)
+of_call st conn (call.TakeNotices max) control = keeps_plain st _ _ (all_still st.stage)
+of_call st conn (call.AwaitNotices max) control = keeps_plain st _ _ (all_still st.stage)
 of_call st conn (call.Activate e role) control = keeps_plain st _ _ (all_still st.stage)
 of_call st conn (call.Release c) control = keeps_plain st _ _ (of_leaving st
     (filter (is_client_of conn c.0) st.clients) (filter (λ k. not (is_client_of conn c.0 k)) st.clients))
@@ -225,10 +151,6 @@ of_call st conn (call.SetIconPath s context text) control = keeps_plain st _ _ (
 of_call st conn (call.SetGrouping s grouping context) control = keeps_plain st _ _ (all_still st.stage)
 of_call st conn (call.Other code rest) control = keeps_plain st _ _ (all_still st.stage)
 
-of_device : (st : State) (x : DeviceEvent) → Keeps st (device_plan st x)
-of_device st (device.Add e flow format name) = keeps_memory st _ _ (all_moved st.stage (added e.0 ∷ []) (tt, tt))
-of_device st (device.Other code rest) = keeps_plain st _ _ (all_still st.stage)
-
 keeps_hangup : (st : State) (conn : ℕ) → Keeps st (hangup_plan st conn)
 keeps_hangup st conn = keeps_plain st _ _ (of_leaving (without_connection conn st)
     (filter (is_client_on conn) st.clients) (filter (λ c. not (is_client_on conn c)) st.clients))
@@ -238,4 +160,5 @@ keeps_event st (event.Open c process name) control = keeps_plain st _ _ (all_sti
 keeps_event st (event.Hangup c) control = keeps_hangup st c.0
 keeps_event st (event.Call c tag x) control = of_call st c.0 x control
 keeps_event st (event.Period e) control = of_period st (endpoint_at e.0 st)
-keeps_event st (event.Device x) control = of_device st x
+keeps_event st (event.Device x) control = keeps_device st x
+keeps_event st event.Shutdown control = keeps_shutdown st

@@ -1,6 +1,8 @@
 pub mod StoreData
 pub mod EntryData
 pub mod StreamsFall
+pub mod PlansFall
+pub mod DevicesFall
 pub mod EventsFall
 pub mod CoreSteps
 pub mod PutFrames
@@ -13,6 +15,7 @@ pub mod DataEntries
 pub mod DataBoards
 pub mod TallyFalls
 pub mod TallyOutcomes
+pub mod DeviceOutcomes
 pub mod TallyStays
 pub mod PendingWords
 pub mod CoreCounts
@@ -22,3 +25,9 @@ pub mod CoreCounted
 pub mod Leases
 pub mod PeriodCounted
 pub mod NewSides
+pub mod ToldSteps
+pub mod ComparedSteps
+pub mod ApartNotes
+pub mod SettingSteps
+pub mod PeriodSteps
+pub mod TellingBoards

@@ -16,7 +16,7 @@ use Rattle.ca_stage.proofs.MapTallies.{sum_alike, sum_map}
 use Rattle.period_engine.specs.declared.entry.StreamEntry.{StreamEntry}
 use Rattle.period_engine.specs.Added.{Threads}
 use Rattle.period_engine.specs.Entries.{AreInOrder, IsRested, stream_of, stream_with, streams_of}
-use Rattle.service_board.specs.Board.{book_state, playhead_of}
+use Rattle.service_board.specs.Board.{book_state, playhead_of, state_of as board_state}
 use Rattle.service_board.specs.InOrder.{Belongs, InOrder}
 use Rattle.service_board.specs.declared.board.Board.{Board}
 use Rattle.service_core.specs.Core.{HasSide, HaveSides, IsLooked, LooksAround, core_data, core_datas, core_state}
@@ -110,7 +110,17 @@ module _ {F : Type 0} (kept : F → Kept) where
 
   module _ {D : Type 0} (state : F → EndState) (whole : (x : F) → state_of (kept x) ≡ state x)
       (old new : Board D (BothEnds F)) (around : LooksAround kept old new) where
-    -- the state is as before
+    -- the state is as before, with any data of the streams, and with those of the stores
+    pub looked_state : (datas : ℕ → BufferData) (tally : Tally) →
+        board_state datas tally new ≡ board_state datas tally old
+    looked_state datas tally =
+        ap (λ b. board_state datas tally b) around.same
+        ∙ ap (λ streams. book_state old.book (record {
+          playheads = map playhead_of old.seats.items;
+          streams = streams;
+        }) tally)
+        (streams_with datas datas (λ client. refl) old.entries.items new.entries.items around.looked)
+
     pub around_state : (tally : Tally) → core_state kept tally new ≡ core_state kept tally old
     around_state tally =
         ap (λ b. core_state kept tally b) around.same
@@ -138,12 +148,13 @@ module _ {F : Type 0} (kept : F → Kept) where
               around.looked order.rested;
           belong = each_looked (Belongs old.book old.seats.items)
               (λ a b looked here. belongs_kept old.book old.seats.items a b (same_but_store a b looked.same)
-              (before a b looked) here)
+              (λ opens. sym (ap (λ e. e.gate) looked.same) ∙ opens) (before a b looked) here)
               old.entries.items new.entries.items around.looked order.belong;
           seats = order.seats;
           book = order.book;
           room = subst (λ n. CLIENTS ≤ n) (sym around.room) order.room;
           seat_room = order.seat_room;
+          draft_room = order.draft_room;
         })
       where
         before : (a b : StreamEntry (BothEnds F)) → IsLooked kept a b → b.position ≤ a.position

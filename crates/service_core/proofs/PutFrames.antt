@@ -1,47 +1,6 @@
 -- Frames that go into a store of words.
-use Rattle.std.proofs.Common.{
-  ◌≡◌,
-  ℕ,
-  suc,
-  ◌+◌,
-  ◌-◌,
-  ◌*◌,
-  ◌<◌,
-  ◌≤◌,
-  List,
-  [],
-  ◌∷◌,
-  ◌++◌,
-  length,
-  map,
-  take,
-  drop,
-  zero,
-  refl,
-  sym,
-  ap,
-  subst,
-  ◌∙◌,
-  append_assoc,
-  arith,
-  inl,
-  inr,
-  ℤ,
-  replicate,
-}
-use Rattle.std.proofs.lemmas.List.{
-  length-append,
-  length-take,
-  length-take-le,
-  map-append,
-  get_or-drop,
-  get_or-take,
-  get_or_past,
-  take-take,
-  drop-take,
-  drop-drop,
-  replicate-append-replicate,
-}
+use Rattle.std.proofs.Common.{◌≡◌, ℕ, suc, ◌+◌, ◌-◌, ◌*◌, ◌<◌, ◌≤◌, List, [], ◌∷◌, ◌++◌, length, map, take, drop, zero, refl, sym, ap, subst, ◌∙◌, append_assoc, arith, inl, inr, ℤ, replicate}
+use Rattle.std.proofs.lemmas.List.{length-append, length-take, length-take-le, map-append, get_or-drop, get_or-take, get_or_past, take-take, drop-take, drop-drop, replicate-append-replicate}
 use Rattle.std.proofs.lemmas.Bool.{cases_lt}
 use Rattle.wave_format.specs.Frame.{frame_of, frame_bytes, frame_from, frames_from, word_of, IsFrame, AreBytes}
 use Rattle.ca_base.specs.declared.ids.Gate.TheVariants as gate

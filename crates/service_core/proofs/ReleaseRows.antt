@@ -16,15 +16,7 @@ use Rattle.ca_base.specs.declared.values.TheConstants.{BUFFER_SILENT}
 use Rattle.ca_base.specs.Rows.{first}
 use Rattle.client_state.specs.declared.check.DataCall.TheVariants as data_call
 use Rattle.client_state.specs.declared.side.ClientSide.{ClientSide}
-use Rattle.client_state.specs.Rows.{
-  has_wrong_size,
-  is_closed,
-  is_lease_below,
-  is_render,
-  is_shut_down,
-  padding_of,
-  side_rows,
-}
+use Rattle.client_state.specs.Rows.{has_wrong_size, is_closed, is_lease_below, is_render, is_shut_down, padding_of, side_rows}
 use Rattle.buffer_ring.specs.Kept.{Kept}
 use Rattle.period_engine.specs.declared.entry.StreamEntry.{StreamEntry}
 use Rattle.service_core.specs.Core.{HasSide, seen_in}

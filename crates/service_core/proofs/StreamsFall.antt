@@ -5,30 +5,7 @@ use Rattle.std.specs.List.{AllByRecursion}
 use Rattle.std.proofs.lemmas.Bool.{true≢false}
 use Rattle.std.proofs.lemmas.Option.{same_Some}
 use Rattle.ca_stage.specs.Stage.{Stream, Stage, padding}
-use Rattle.ca_stage.specs.Moves.{
-  StreamMove,
-  leased,
-  released,
-  started,
-  stopped,
-  reset,
-  closed,
-  picked,
-  retired,
-  Move,
-  added,
-  opened,
-  of_client,
-  sounded,
-  finished,
-  moved,
-  as_opened,
-  is_open_of,
-  stream_after,
-  after_move,
-  after_moves,
-  stream_at,
-}
+use Rattle.ca_stage.specs.Moves.{StreamMove, leased, released, started, stopped, reset, closed, picked, retired, Move, added, opened, of_client, sounded, finished, moved, as_opened, is_open_of, stream_after, after_move, after_moves, stream_at}
 use Rattle.ca_stage.specs.Order.{is_among}
 use Rattle.ca_stage.specs.Present.{present}
 use Rattle.ca_stage.proofs.Lists.{chosen, chosen_by, all_found, found_passes}

@@ -4,7 +4,8 @@ use Rattle.std.proofs.Common.{sym, ap, ◌∙◌, arith, sum_by, if◌then◌els
 use Rattle.std.specs.List.{AllByRecursion}
 use Rattle.std.proofs.lemmas.Bool.{and_parts}
 use Rattle.std.proofs.lemmas.List.Sums.{sum_by-cons}
-use Rattle.ca_base.specs.declared.ids.Reason.TheVariants.{Removal, Released}
+use Rattle.ca_base.specs.declared.ids.Reason.{Reason}
+use Rattle.ca_base.specs.declared.ids.Reason.TheVariants.{Removal}
 use Rattle.ca_base.specs.declared.limits.TheConstants.{MAX_TALLY}
 use Rattle.ca_stage.specs.Stage.{Stream, Stage, padding, is_open}
 use Rattle.ca_stage.specs.Moves.{StreamMove, reset, closed, picked, retired, Move, of_client, Mixing, after_moves}
@@ -14,23 +15,8 @@ use Rattle.ca_stage.specs.Present.{present, AreGone, IsGone}
 use Rattle.ca_stage.specs.Tally.{Tally, counted, tally_after}
 use Rattle.ca_stage.proofs.Counting.{counted_none, counted_twice, counted_most}
 use Rattle.ca_stage.proofs.Lists.{all_of}
-use Rattle.ca_stage.proofs.MapMoves.{
-  all_closed,
-  is_open_among,
-  moved_where,
-  moves_to,
-  once_distinct,
-  streams_moved_once,
-}
-use Rattle.ca_stage.proofs.MapTallies.{
-  AddsTo,
-  amount_where,
-  closes_tally,
-  sum_alike,
-  sum_both,
-  sum_map,
-  tally_moved_once,
-}
+use Rattle.ca_stage.proofs.MapMoves.{all_closed, is_open_among, moved_where, moves_to, once_distinct, streams_moved_once}
+use Rattle.ca_stage.proofs.MapTallies.{AddsTo, amount_where, closes_tally, sum_alike, sum_both, sum_map, tally_moved_once}
 use Rattle.ca_stage.proofs.MapPeriods.{tally_of_failed, tally_of_whole}
 use Rattle.ca_stage.proofs.Periods.{period_by}
 
@@ -171,15 +157,16 @@ pub left_padding : (numbers : List ℕ) (st : Stage) → AreGone numbers st →
     open_padding (present numbers st) ≡ open_padding st
 left_padding numbers st gone = closed_out numbers st.streams gone
 
-pub closes_count : (numbers : List ℕ) (st : Stage) (t : Tally) → RisesFrom 0 (clients st) → t.dropped ≤ MAX_TALLY →
-    (xs : List Move) → xs ≡ moves_to (closed Released) numbers →
+-- streams of these clients are closed
+pub closes_count : (reason : Reason) (numbers : List ℕ) (st : Stage) (t : Tally) → RisesFrom 0 (clients st) →
+    t.dropped ≤ MAX_TALLY → (xs : List Move) → xs ≡ moves_to (closed reason) numbers →
     tally_after t st xs
     ≡ record t { dropped = counted t.dropped (open_padding st - open_padding (after_moves st xs)) }
-closes_count numbers st t r l xs is =
+closes_count reason numbers st t r l xs is =
     ap (tally_after t st) is
-    ∙ closes_tally Released numbers st t r l
+    ∙ closes_tally reason numbers st t r l
     ∙ ap (λ k. record t { dropped = counted t.dropped k })
-    (fall_by (moved_where (is_open_among numbers) (closed Released)) (amount_where (is_open_among numbers) padding)
-    (empties_where (is_open_among numbers) (closed Released) (among_opens numbers) (λ s. refl)) st.streams
+    (fall_by (moved_where (is_open_among numbers) (closed reason)) (amount_where (is_open_among numbers) padding)
+    (empties_where (is_open_among numbers) (closed reason) (among_opens numbers) (λ s. refl)) st.streams
     ∙ ap (λ after. open_padding st - open_padding after)
-    (sym (ap (after_moves st) is ∙ all_closed Released numbers st)))
+    (sym (ap (after_moves st) is ∙ all_closed reason numbers st)))

@@ -4,7 +4,10 @@ use Rattle.std.proofs.Common.{◌≡◌, ℕ, ◌-◌, ◌++◌, not, List, [], 
 use Rattle.std.proofs.Common.{refl, sym, ap, subst, ◌∙◌, arith, get_or, if◌then◌else◌}
 use Rattle.std.specs.Int.{w32, to_le_bytes}
 use Rattle.ca_base.specs.declared.codes.Hr.{Hr}
+use Rattle.ca_base.specs.declared.codes.TheConstants.Hr as hr
 use Rattle.ca_base.specs.Rows.{first}
+use Rattle.ca_base.specs.declared.ids.Reason.TheVariants.{Released}
+use Rattle.device_registry.specs.declared.endpoint.Endpoint.{Endpoint}
 use Rattle.ca_stage.specs.Stage.{Stream}
 use Rattle.ca_stage.specs.Moves.{reset, Mixing, of_client, after_moves, stream_at, sub_steps}
 use Rattle.ca_stage.specs.Order.{clients, RisesFrom}
@@ -12,32 +15,16 @@ use Rattle.ca_stage.specs.Present.{AreGone}
 use Rattle.ca_stage.specs.Tally.{counted}
 use Rattle.ca_stage.proofs.Counting.{counted_none}
 use Rattle.ca_machine.specs.declared.state.Client.{Client}
-use Rattle.ca_machine.specs.declared.state.Endpoint.{Endpoint}
 use Rattle.ca_machine.specs.State.{State, live_clients, is_client_of, endpoint_at}
-use Rattle.ca_machine.specs.Plan.{Outcome, Answer, outcome_of, granted, unless_refused, is_whole, moved}
+use Rattle.ca_machine.specs.Plan.{Outcome, Answer, outcome_of, granted, refused, unless_refused, is_whole, moved}
 use Rattle.ca_machine.specs.SharedRows.{with_stream}
 use Rattle.ca_machine.specs.Clients.{closes, hangup_plan, is_client_on, leaving, release_plan, without_connection}
 use Rattle.ca_machine.specs.Streams.{reset_plan}
-use Rattle.ca_machine.specs.Periods.{
-  after_period,
-  mixing_of,
-  period_of,
-  period_payload,
-  period_plan,
-  period_rows,
-  sounding,
-}
+use Rattle.ca_machine.specs.Periods.{after_period, mixing_of, period_of, period_payload, period_plan, period_rows, sounding}
 use Rattle.ca_machine.proofs.LiveClients.{gone_left}
 use Rattle.ca_machine.proofs.ClosesOfClients.{closes_are}
 use Rattle.service_core.specs.Counting.{HasCounts}
-use Rattle.service_core.proofs.TallyFalls.{
-  closes_count,
-  failed_counts,
-  left_padding,
-  open_padding,
-  reset_counts,
-  whole_counts,
-}
+use Rattle.service_core.proofs.TallyFalls.{closes_count, failed_counts, left_padding, open_padding, reset_counts, whole_counts}
 
 -- by how much fewer frames are pending in open streams
 abbrev pub fallen : State → State → ℕ
@@ -58,6 +45,19 @@ abbrev pub WereTaken : Bool → State → State → Type 0
 WereTaken false old new = WereRendered old new
 WereTaken true old new = WereDropped old new
 
+-- the last byte of a period's payload says whether it failed
+pub last_byte : (m : Mixing) (whole failed : Bool) (frames : ℕ) →
+    to_le_bytes w32 frames ++ (if failed then 1 else 0) ∷ [] ≡ period_payload m whole → failed ≡ not whole
+last_byte m true true frames e = cc (ap (λ bytes. get_or bytes 4 0) e)
+last_byte m true false frames e = refl
+last_byte m false true frames e = refl
+last_byte m false false frames e = cc (ap (λ bytes. get_or bytes 4 0) e)
+
+-- a period's payload has some bytes
+pub some_bytes : (m : Mixing) (whole : Bool) → [] ≡ period_payload m whole → ⊥
+some_bytes m true e = cc
+some_bytes m false e = cc
+
 module _ (st : State) (rises : RisesFrom 0 (clients st.stage)) (fits : HasCounts st.tally) where
   none_fallen : fallen st st ≡ 0
   none_fallen = omega arith
@@ -65,7 +65,7 @@ module _ (st : State) (rises : RisesFrom 0 (clients st.stage)) (fits : HasCounts
   none_reset : WereReset st st
   none_reset = ap (λ n. record (st.tally) { reset = n }) (counted_none st.tally.reset fits.reset none_fallen)
 
-  none_dropped : WereDropped st st
+  pub none_dropped : WereDropped st st
   none_dropped = ap (λ n. record (st.tally) { dropped = n }) (counted_none st.tally.dropped fits.dropped none_fallen)
 
   -- ---- Reset
@@ -89,7 +89,7 @@ module _ (st : State) (rises : RisesFrom 0 (clients st.stage)) (fits : HasCounts
 
   -- ---- clients that leave
 
-  dropped_unless : (verdict : Option Hr) (o : Outcome) → WereDropped st o.after →
+  pub dropped_unless : (verdict : Option Hr) (o : Outcome) → WereDropped st o.after →
       WereDropped st (unless_refused st verdict o).after
   dropped_unless None o h = h
   dropped_unless (Some code) o h = none_dropped
@@ -104,7 +104,7 @@ module _ (st : State) (rises : RisesFrom 0 (clients st.stage)) (fits : HasCounts
 
     leaving_drops : WereDropped st (leaving the_gone the_left st).after
     leaving_drops =
-        closes_count (live_clients the_gone) st.stage st.tally rises fits.dropped (closes the_gone)
+        closes_count Released (live_clients the_gone) st.stage st.tally rises fits.dropped (closes the_gone)
         (closes_are the_gone)
         ∙ ap (λ n. record (st.tally) { dropped = counted st.tally.dropped (open_padding st.stage - n) })
         (sym (left_padding (live_clients the_left) (after_moves st.stage (closes the_gone))
@@ -133,14 +133,6 @@ module _ (st : State) (rises : RisesFrom 0 (clients st.stage)) (fits : HasCounts
   sounds m true = whole_counts m st.stage st.tally rises fits.rendered
   sounds m false = failed_counts m st.stage st.tally rises fits.dropped
 
-  -- the last byte of a period's payload says whether it failed
-  last_byte : (m : Mixing) (whole failed : Bool) (frames : ℕ) →
-      to_le_bytes w32 frames ++ (if failed then 1 else 0) ∷ [] ≡ period_payload m whole → failed ≡ not whole
-  last_byte m true true frames e = cc (ap (λ bytes. get_or bytes 4 0) e)
-  last_byte m true false frames e = refl
-  last_byte m false true frames e = refl
-  last_byte m false false frames e = cc (ap (λ bytes. get_or bytes 4 0) e)
-
   period_unless : (m : Mixing) (given : List Answer) (verdict : Option Hr) (frames : ℕ) (failed : Bool) →
       to_le_bytes w32 frames ++ (if failed then 1 else 0) ∷ []
       ≡ (unless_refused st verdict (sounding st m given)).payload →
@@ -150,10 +142,18 @@ module _ (st : State) (rises : RisesFrom 0 (clients st.stage)) (fits : HasCounts
       (sounds m (is_whole given))
   period_unless m given (Some code) frames failed e = cc (ap (λ bytes. bytes) e)
 
+  -- a period of an endpoint that isn't there
+  no_endpoint : (verdict : Option Hr) (frames : ℕ) (failed : Bool) →
+      to_le_bytes w32 frames ++ (if failed then 1 else 0) ∷ []
+      ≡ (unless_refused st verdict (refused st hr.E_NOTFOUND)).payload →
+      WereTaken failed st (unless_refused st verdict (refused st hr.E_NOTFOUND)).after
+  no_endpoint None frames failed e = cc (ap (λ bytes. bytes) e)
+  no_endpoint (Some code) frames failed e = cc (ap (λ bytes. bytes) e)
+
   of_endpoint : (e : Option Endpoint) (given : List Answer) (frames : ℕ) (failed : Bool) →
       to_le_bytes w32 frames ++ (if failed then 1 else 0) ∷ [] ≡ (outcome_of st (period_of st e) given).payload →
       WereTaken failed st (outcome_of st (period_of st e) given).after
-  of_endpoint None given frames failed e = cc (ap (λ bytes. bytes) e)
+  of_endpoint None given frames failed e = no_endpoint (first (period_of st None).rows) frames failed e
   of_endpoint (Some endpoint) given frames failed e =
       period_unless (mixing_of st endpoint) given (first (period_rows st endpoint)) frames failed e
 
@@ -167,11 +167,7 @@ module _ (st : State) (rises : RisesFrom 0 (clients st.stage)) (fits : HasCounts
   nothing_unless : (m : Mixing) (given : List Answer) (verdict : Option Hr) →
       [] ≡ (unless_refused st verdict (sounding st m given)).payload →
       (unless_refused st verdict (sounding st m given)).after.tally ≡ st.tally
-  nothing_unless m given None e = absurd (some_bytes (is_whole given) e)
-    where
-      some_bytes : (whole : Bool) → [] ≡ period_payload m whole → ⊥
-      some_bytes true e = cc
-      some_bytes false e = cc
+  nothing_unless m given None e = absurd (some_bytes m (is_whole given) e)
   nothing_unless m given (Some code) e = refl
 
   pub period_nothing : (number : ℕ) (given : List Answer) →
@@ -179,7 +175,12 @@ module _ (st : State) (rises : RisesFrom 0 (clients st.stage)) (fits : HasCounts
       (outcome_of st (period_plan st number) given).after.tally ≡ st.tally
   period_nothing number given e = of_none (endpoint_at number st) given e
     where
+      refused_still : (verdict : Option Hr) →
+          (unless_refused st verdict (refused st hr.E_NOTFOUND)).after.tally ≡ st.tally
+      refused_still None = refl
+      refused_still (Some code) = refl
+
       of_none : (o : Option Endpoint) (given : List Answer) → [] ≡ (outcome_of st (period_of st o) given).payload →
           (outcome_of st (period_of st o) given).after.tally ≡ st.tally
-      of_none None given e = refl
+      of_none None given e = refused_still (first (period_of st None).rows)
       of_none (Some endpoint) given e = nothing_unless (mixing_of st endpoint) given (first (period_rows st endpoint)) e

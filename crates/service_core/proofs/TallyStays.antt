@@ -1,71 +1,29 @@
 -- Events that give no frame a fate leave the tally.
-use Rattle.std.proofs.Common.{
-  ◌≡◌,
-  ℕ,
-  ◌||◌,
-  not,
-  List,
-  [],
-  ◌∷◌,
-  Bool,
-  true,
-  false,
-  Option,
-  Some,
-  None,
-  refl,
-  if◌then◌else◌,
-}
+use Rattle.std.proofs.Common.{◌≡◌, ℕ, ◌||◌, not, List, [], ◌∷◌, Bool, true, false, Option, Some, None, refl, if◌then◌else◌, option_map}
 use Rattle.ca_base.specs.declared.codes.Hr.{Hr}
 use Rattle.ca_base.specs.declared.codes.TheConstants.Hr as hr
 use Rattle.ca_base.specs.Rows.{Row, first}
 use Rattle.ca_model.specs.declared.event.Call.{Call}
 use Rattle.ca_model.specs.declared.event.Call.TheVariants as call
-use Rattle.ca_model.specs.declared.event.DeviceEvent.{DeviceEvent}
-use Rattle.ca_model.specs.declared.event.DeviceEvent.TheVariants as device
 use Rattle.wave_format.specs.Format.{spelled}
 use Rattle.ca_stage.specs.Stage.{Stream}
 use Rattle.ca_stage.specs.Moves.{StreamMove, leased, released, started, stopped, of_client, is_open_of, stream_at}
 use Rattle.ca_stage.specs.Tally.{Tally, tally_of_found, tally_of_stream}
+use Rattle.device_registry.specs.declared.endpoint.Endpoint.{Endpoint}
 use Rattle.session_manager.specs.declared.session.Session.{Session}
 use Rattle.session_manager.specs.Sessions.{session_at}
 use Rattle.ca_machine.specs.declared.state.Client.{Client}
-use Rattle.ca_machine.specs.declared.state.Endpoint.{Endpoint}
-use Rattle.ca_machine.specs.State.{State, client_of}
-use Rattle.ca_machine.specs.Plan.{
-  Outcome,
-  Plan,
-  Answer,
-  answered,
-  granted,
-  if_found,
-  outcome_of,
-  plain,
-  unless_refused,
-  with_memory,
-}
+use Rattle.ca_machine.specs.State.{State, client_of, endpoint_at}
+use Rattle.ca_machine.specs.Plan.{Outcome, Plan, Answer, answered, granted, if_found, outcome_of, plain, unless_refused, with_memory}
 use Rattle.ca_machine.specs.Plan.Answer.{out_of_memory}
 use Rattle.ca_machine.specs.SharedRows.{endpoint_of, with_endpoint, with_stream}
 use Rattle.ca_machine.specs.Clients.{open_plan}
-use Rattle.ca_machine.specs.Streams.{
-  Opening,
-  initialize_plan,
-  initialized,
-  supported,
-  is_faulty,
-  matches,
-  format_payload,
-  with_stream_level,
-}
-use Rattle.ca_machine.specs.Sessions.{
-  enum_sessions_plan,
-  get_session_plan,
-  session_payload,
-  state_of_session,
-  with_session,
-}
+use Rattle.ca_machine.specs.Endpoints.{default_at, device_info_plan, endpoint_named, endpoint_told, enum_endpoints_plan, number_told}
+use Rattle.ca_machine.specs.Registrations.{take_notices_plan}
+use Rattle.ca_machine.specs.Streams.{Opening, initialize_plan, initialized, supported, is_faulty, matches, format_payload, with_stream_level}
+use Rattle.ca_machine.specs.Sessions.{enum_sessions_plan, get_session_plan, session_payload, state_of_session, with_session}
 use Rattle.ca_machine.specs.Data.{get_buffer_plan, release_buffer_plan, frames_released}
-use Rattle.ca_machine.specs.Step.{call_plan, device_plan}
+use Rattle.ca_machine.specs.Step.{call_plan}
 use Rattle.service_board.specs.Calls.{IsPlainCall}
 use Rattle.service_core.proofs.EventsFall.{IsControlCall}
 
@@ -148,8 +106,28 @@ of_supported : (st : State) (payload : List ℕ) (b : Bool) → Leaves st
 of_supported st payload true = refl
 of_supported st payload false = refl
 
+-- what calls tell of endpoints
+of_number : (st : State) (number : Option ℕ) → Leaves st (number_told st number)
+of_number st None = refl
+of_number st (Some number) = refl
+
+of_told : (st : State) (e : Option Endpoint) → Leaves st (endpoint_told st e)
+of_told st None = refl
+of_told st (Some e) = refl
+
 -- each call but Release, Reset, Initialize and the data calls
 pub tally_of_call : (st : State) (conn : ℕ) (x : Call) → IsPlainCall x → LeavesTally st (call_plan st conn x)
+tally_of_call st conn (call.EnumEndpoints flow mask) h = absurd h
+tally_of_call st conn (call.GetDefault flow role) h =
+    of_plain st _ (number_told st (default_at flow role st)) (of_number st (default_at flow role st))
+tally_of_call st conn (call.GetDevice id) h =
+    of_plain st _ (number_told st (option_map (λ e. e.no.0) (endpoint_named id st)))
+    (of_number st (option_map (λ e. e.no.0) (endpoint_named id st)))
+tally_of_call st conn (call.DeviceInfo e) h = absurd h
+tally_of_call st conn (call.Register class subject) h = of_memory st _ _ refl
+tally_of_call st conn (call.Unregister number) h = of_plain st _ _ refl
+tally_of_call st conn (call.TakeNotices max) h = absurd h
+tally_of_call st conn (call.AwaitNotices max) h = absurd h
 tally_of_call st conn (call.Activate e role) h = of_plain st _ _ refl
 tally_of_call st conn (call.Release c) h = absurd h
 tally_of_call st conn (call.Initialize c share flags duration period format session) h = absurd h
@@ -210,11 +188,17 @@ tally_of_release st conn client frames flags bytes =
 pub tally_of_open : (st : State) (conn process : ℕ) (name : List ℕ) → LeavesTally st (open_plan st conn process name)
 tally_of_open st conn process name = of_plain st _ _ refl
 
-pub tally_of_device : (st : State) (x : DeviceEvent) → LeavesTally st (device_plan st x)
-tally_of_device st (device.Add e flow format name) = of_memory st _ _ refl
-tally_of_device st (device.Other code rest) = of_plain st _ _ refl
+-- calls that tell of endpoints, sessions and notices
+pub tally_of_endpoints : (st : State) (conn flow mask : ℕ) → LeavesTally st (enum_endpoints_plan st conn flow mask)
+tally_of_endpoints st conn flow mask = of_plain st _ _ refl
 
--- calls that tell of sessions
+pub tally_of_info : (st : State) (conn number : ℕ) → LeavesTally st (device_info_plan st conn number)
+tally_of_info st conn number =
+    of_plain st _ (endpoint_told st (endpoint_at number st)) (of_told st (endpoint_at number st))
+
+pub tally_of_notices : (st : State) (conn max : ℕ) → LeavesTally st (take_notices_plan st conn max)
+tally_of_notices st conn max = of_plain st _ _ refl
+
 pub tally_of_enum : (st : State) (conn endpoint : ℕ) → LeavesTally st (enum_sessions_plan st conn endpoint)
 tally_of_enum st conn endpoint = of_plain st _ _ refl
 

@@ -8,9 +8,9 @@ use Rattle.ca_model.specs.declared.event.Event.{Event}
 use Rattle.ca_model.specs.declared.reply.Reply.{Reply}
 use Rattle.ca_stage.specs.Tally.{Tally}
 use Rattle.ca_machine.specs.State.{State}
-use Rattle.ca_machine.specs.Plan.{Plan}
-use Rattle.ca_machine.specs.Step.{event_connection, event_kind, event_tag}
-use Rattle.ca_machine.specs.View.{AnswersBy, MachineView, outside}
+use Rattle.ca_machine.specs.Plan.{Answer, AreAnswers, Plan}
+use Rattle.ca_machine.specs.Step.{asks, event_connection, event_kind, event_tag, step}
+use Rattle.ca_machine.specs.View.{AnswersBy, MachineView, Passes, outside}
 use Rattle.service_board.specs.InOrder.{InOrder}
 use Rattle.service_board.specs.declared.board.Board.{Board}
 use Rattle.service_core.specs.Core.{HaveSides, core_state}
@@ -35,6 +35,17 @@ abbrev pub AnswersPlan : {D : Type 0} → (D → ℕ) → (D → Option (List De
     MachineView D → MachineView D → Type 0
 AnswersPlan faults told plan result payload old new = AnswersBy old.state (plan old.state) result payload new.state
     (outside faults told old.devices) (outside faults told new.devices)
+
+-- an event was answered by the step of the machine, with this result and payload: its notices went to the connections
+pub record AnswersStep {D : Type 0} (faults : D → ℕ) (told : D → Option (List DeviceLog)) (e : Event) (result : Hr)
+    (payload : List ℕ) (old new : MachineView D) : Type 0 where
+  pub given : List Answer
+  pub answers : AreAnswers (asks old.state e) given
+  pub result-is : result ≡ (step old.state e given).result
+  pub payload-is : payload ≡ (step old.state e given).payload
+  pub after-is : new.state ≡ (step old.state e given).after
+  pub passes : Passes (outside faults told old.devices) (step old.state e given).output given
+      (outside faults told new.devices)
 
 -- a reply has the kind, the connection and the tag that its event calls for
 pub record HasHead (event : Event) (r : Reply) : Type 0 where

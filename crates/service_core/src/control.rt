@@ -1,17 +1,24 @@
 //! Events on a service.
 
+ghost use Rattle.std.specs.Prelude.{◌≡◌, IfOk, Some, if◌then◌else◌};
 ghost use Rattle.ca_machine.specs.Clients.{hangup_plan, open_plan, release_plan};
 ghost use Rattle.ca_machine.specs.Data.{get_buffer_plan, get_current_padding_plan, release_buffer_plan};
+ghost use Rattle.ca_machine.specs.Devices.{shutdown_plan};
+ghost use Rattle.ca_machine.specs.Notices.{noted};
 ghost use Rattle.ca_machine.specs.Periods.{period_plan};
 ghost use Rattle.ca_machine.specs.Step.{call_plan, device_plan};
 ghost use Rattle.ca_machine.specs.Streams.{reset_plan};
-ghost use Rattle.reply_payload.specs.Answers.{code_of, payload_of};
+ghost use Rattle.reply_payload.specs.Answers.{IsPeriod, code_of, payload_of};
 ghost use Rattle.service_board.specs.Calls.{IsPlainCall, IsShortCall};
 ghost use Rattle.service_board.specs.Openings.{opening_plan};
+ghost use Rattle.service_board.specs.Telling.{has_failed};
 ghost use Rattle.service_core.specs.Service.{AnswersPlan};
 
 use crate::Core;
-use crate::counting::{counted_hangup, counted_period, counted_release, counted_reset};
+use crate::counting::{
+    counted_device, counted_hangup, counted_period, counted_release, counted_reset,
+    counted_shutdown,
+};
 use crate::data::{get_buffer, get_current_padding, release_buffer};
 use crate::new_ends::new_ends;
 use buffer_ring::FrameStore;
@@ -20,10 +27,11 @@ use ca_model::{Call, DeviceEvent};
 use device_io::Devices;
 use reply_payload::Payload;
 use service_board::Opening;
+use step_notices::Noted;
 
 impl<D: Devices, F: FrameStore> Core<D, F> {
     /// A connection opens.
-    pub fn open(&mut self, conn: ConnNo, process: u32, name: &Text) -> Result<Payload, Hr>
+    pub(crate) fn open(&mut self, conn: ConnNo, process: u32, name: &Text) -> Result<Payload, Hr>
         ensures { AnswersPlan D.faults D.told (λ st. open_plan st conn.0 process name.now)
             (code_of result) (payload_of result) self.old self.new }
     {
@@ -31,7 +39,7 @@ impl<D: Devices, F: FrameStore> Core<D, F> {
     }
 
     /// A connection hangs up: its clients are released.
-    pub fn hangup(&mut self, conn: ConnNo) -> Result<Payload, Hr>
+    pub(crate) fn hangup(&mut self, conn: ConnNo) -> Result<Payload, Hr>
         ensures { AnswersPlan D.faults D.told (λ st. hangup_plan st conn.0)
             (code_of result) (payload_of result) self.old self.new }
     {
@@ -102,7 +110,7 @@ impl<D: Devices, F: FrameStore> Core<D, F> {
         release_buffer(&mut self.board, conn, client, frames, flags, bytes)
     }
 
-    /// A call that asks for no memory, needs nothing of the client's side, gives no frame a fate, and answers a few
+    /// A call that opens no stream, needs nothing of the client's side, gives no frame a fate, and answers a few
     /// bytes.
     fn plain_call(&mut self, conn: ConnNo, call: &Call) -> Result<Payload, Hr>
         requires { IsPlainCall call.now }
@@ -113,7 +121,7 @@ impl<D: Devices, F: FrameStore> Core<D, F> {
     }
 
     /// A call of a connection that answers a few bytes.
-    pub fn call(&mut self, conn: ConnNo, call: &Call) -> Result<Payload, Hr>
+    pub(crate) fn call(&mut self, conn: ConnNo, call: &Call) -> Result<Payload, Hr>
         requires { IsShortCall call.now }
         ensures { AnswersPlan D.faults D.told (λ st. call_plan st conn.0 call.now)
             (code_of result) (payload_of result) self.old self.new }
@@ -151,31 +159,40 @@ impl<D: Devices, F: FrameStore> Core<D, F> {
         }
     }
 
-    /// A period of an endpoint.
-    pub fn period(&mut self, e: EndpointNo) -> Result<Payload, Hr>
-        ensures { AnswersPlan D.faults D.told (λ st. period_plan st e.0)
+    /// A period of an endpoint. If its device failed, and only then, `before` has what was noted of the service before it.
+    pub(crate) fn period(
+        &mut self,
+        e: EndpointNo,
+        before: &mut Option<Noted>,
+    ) -> Result<Payload, Hr>
+        ensures answers { AnswersPlan D.faults D.told (λ st. period_plan st e.0)
             (code_of result) (payload_of result) self.old self.new }
+        ensures plays { IfOk result IsPeriod }
+        ensures notes { before.new
+            ≡ (if has_failed result then Some (noted self.old.state) else before.old) }
     {
-        let (answer, taken) = counted_period(&mut self.board, e);
+        let (answer, taken) = counted_period(&mut self.board, e, before);
         self.tally.take(&answer, taken);
         answer
     }
 
-    /// A device event.
-    pub fn device(&mut self, event: &DeviceEvent) -> Result<Payload, Hr>
+    /// A device event: streams that lose their device are closed.
+    pub(crate) fn device(&mut self, event: &DeviceEvent) -> Result<Payload, Hr>
         ensures { AnswersPlan D.faults D.told (λ st. device_plan st event.now)
             (code_of result) (payload_of result) self.old self.new }
     {
-        match event {
-            DeviceEvent::Add {
-                endpoint,
-                flow,
-                format,
-                name,
-            } => self
-                .board
-                .add(self.alloc, *endpoint, *flow, format.as_slice(), name),
-            DeviceEvent::Other { .. } => self.board.unlisted_event(),
-        }
+        let (answer, dropped) = counted_device(&mut self.board, self.alloc, event);
+        self.tally.add_dropped(dropped);
+        answer
+    }
+
+    /// The service is shut down: all streams are closed.
+    pub(crate) fn shutdown(&mut self) -> Result<Payload, Hr>
+        ensures { AnswersPlan D.faults D.told (λ st. shutdown_plan st)
+            (code_of result) (payload_of result) self.old self.new }
+    {
+        let (answer, dropped) = counted_shutdown(&mut self.board);
+        self.tally.add_dropped(dropped);
+        answer
     }
 }

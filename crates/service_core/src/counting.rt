@@ -1,13 +1,16 @@
 //! Events that give frames a fate, on a board with both ends: how many frames they took from open streams.
 
-ghost use Rattle.std.specs.Prelude.{◌≡◌, ◌-◌, is_some};
+ghost use Rattle.std.specs.Prelude.{◌≡◌, ◌-◌, IfOk, is_some};
 ghost use Rattle.std.specs.List.{sum_by};
 ghost use Rattle.ca_machine.specs.Clients.{hangup_plan, release_plan};
+ghost use Rattle.ca_machine.specs.Devices.{shutdown_plan};
 ghost use Rattle.ca_machine.specs.Periods.{period_plan};
+ghost use Rattle.ca_machine.specs.Step.{device_plan};
 ghost use Rattle.ca_machine.specs.Streams.{reset_plan};
 ghost use Rattle.ca_stage.specs.Tally.{Tally};
-ghost use Rattle.reply_payload.specs.Answers.{code_of, payload_of};
+ghost use Rattle.reply_payload.specs.Answers.{IsPeriod, code_of, payload_of};
 ghost use Rattle.service_board.specs.InOrder.{InOrder};
+ghost use Rattle.service_board.specs.Telling.{NotesFailure};
 ghost use Rattle.service_core.specs.Counting.{HasCounts, after_taking, more_dropped, more_reset};
 ghost use Rattle.service_core.specs.Core.{GoesTo, LooksAround, core_datas, words_in};
 ghost use Rattle.service_core.specs.Service.{IsCore};
@@ -17,9 +20,12 @@ use crate::BothEnds;
 use crate::pending::{Streams, pending};
 use buffer_ring::FrameStore;
 use ca_base::{ClientNo, ConnNo, EndpointNo, Hr};
+use ca_model::DeviceEvent;
 use device_io::Devices;
 use reply_payload::Payload;
 use service_board::Board;
+use std::alloc::Global;
+use step_notices::Noted;
 
 /// Whether a client has leased frames.
 fn has_lease<D, F: FrameStore>(board: &Board<D, BothEnds<F>>, client: ClientNo) -> bool
@@ -92,18 +98,54 @@ pub fn counted_hangup<D: Devices, F: FrameStore>(
     (answer, fewer_than(before, board))
 }
 
-/// A period of an endpoint; and how many frames it took: they were rendered, or dropped if the device failed.
+/// A device event; and how many frames were dropped.
+pub fn counted_device<D: Devices, F: FrameStore>(
+    board: &mut Board<D, BothEnds<F>>,
+    alloc: Global,
+    event: &DeviceEvent,
+) -> (Result<Payload, Hr>, u64)
+    requires { IsCore F.state F.kept board.old }
+    ensures goes { (tally : Tally) → HasCounts tally → GoesTo D.faults D.told F.kept
+        (λ st. device_plan st event.now) (code_of result.0) (payload_of result.0) tally
+        (more_dropped result.1 tally) board.old board.new }
+    ensures core { IsCore F.state F.kept board.new }
+{
+    let before = pending(board, Streams::Open);
+    let answer = board.device(alloc, event);
+    (answer, fewer_than(before, board))
+}
+
+/// A shutdown; and how many frames were dropped.
+pub fn counted_shutdown<D: Devices, F: FrameStore>(
+    board: &mut Board<D, BothEnds<F>>,
+) -> (Result<Payload, Hr>, u64)
+    requires { IsCore F.state F.kept board.old }
+    ensures goes { (tally : Tally) → HasCounts tally → GoesTo D.faults D.told F.kept
+        (λ st. shutdown_plan st) (code_of result.0) (payload_of result.0) tally
+        (more_dropped result.1 tally) board.old board.new }
+    ensures core { IsCore F.state F.kept board.new }
+{
+    let before = pending(board, Streams::Open);
+    let answer = board.shutdown();
+    (answer, fewer_than(before, board))
+}
+
+/// A period of an endpoint; and how many frames it took: they were rendered, or dropped if the device failed. Then, and
+/// only then, `before` has what was noted of the service before it.
 pub fn counted_period<D: Devices, F: FrameStore>(
     board: &mut Board<D, BothEnds<F>>,
     e: EndpointNo,
+    before: &mut Option<Noted>,
 ) -> (Result<Payload, Hr>, u64)
     requires { IsCore F.state F.kept board.old }
     ensures goes { (tally : Tally) → HasCounts tally → GoesTo D.faults D.told F.kept
         (λ st. period_plan st e.0) (code_of result.0) (payload_of result.0) tally
         (after_taking result.0 result.1 tally) board.old board.new }
+    ensures plays { IfOk result.0 IsPeriod }
+    ensures notes { NotesFailure result.0 before.old before.new board.old }
     ensures core { IsCore F.state F.kept board.new }
 {
-    let before = pending(board, Streams::Open);
-    let answer = board.period(e);
-    (answer, fewer_than(before, board))
+    let pads = pending(board, Streams::Open);
+    let answer = board.period(e, before);
+    (answer, fewer_than(pads, board))
 }

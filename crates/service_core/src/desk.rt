@@ -1,15 +1,17 @@
 //! The service as a desk: it answers each event as the machine does.
 
 ghost use Rattle.std.specs.Prelude.{◌≡◌, ◌≤◌, [], length};
+ghost use Rattle.ca_machine.specs.Registrations.{take_notices_plan};
 ghost use Rattle.ca_machine.specs.Step.{call_plan, plan};
 ghost use Rattle.ca_machine.specs.View.{AnswersEvent};
 ghost use Rattle.reply_payload.specs.Answers.{code_of, payload_of, told_code};
 ghost use Rattle.reply_payload.specs.declared.payload.TheConstants.{REPLY_ROOM};
 ghost use Rattle.service_core.specs.Service.{AnswersPlan, HasHead};
+ghost use Rattle.service_core.specs.Telling.{IsNoPeriod};
 
 use crate::Core;
 use buffer_ring::FrameStore;
-use ca_base::values::{KIND_CALL, KIND_DEVICE, KIND_HANGUP, KIND_OPEN, KIND_PERIOD};
+use ca_base::values::{KIND_CALL, KIND_DEVICE, KIND_HANGUP, KIND_OPEN, KIND_PERIOD, KIND_SHUTDOWN};
 use ca_base::{Bytes, ConnNo, Hr, NoMemory};
 use ca_model::{Call, Event, Reply};
 use call_wire::Desk;
@@ -39,11 +41,12 @@ fn begin(ev: &Event, out: &mut Reply)
         }
         Event::Period { .. } => out.kind = KIND_PERIOD,
         Event::Device { .. } => out.kind = KIND_DEVICE,
+        Event::Shutdown => out.kind = KIND_SHUTDOWN,
     }
 }
 
 /// Puts what an event is answered into a payload, and answers its code.
-fn put(answer: Result<Payload, Hr>, payload: &mut Bytes) -> Hr
+pub fn put(answer: Result<Payload, Hr>, payload: &mut Bytes) -> Hr
     requires empty { payload.old.list ≡ [] }
     requires room { REPLY_ROOM ≤ payload.old.capacity }
     ensures code { result ≡ code_of answer }
@@ -71,8 +74,20 @@ fn told_code(answer: Result<(), Hr>) -> Hr
 }
 
 impl<D: Devices, F: FrameStore> Core<D, F> {
+    /// The notices that a connection takes, at most so many: a call that waits for one is answered what there is.
+    fn take_notices(&mut self, conn: ConnNo, max: u32, payload: &mut Bytes) -> Hr
+        requires empty { payload.old.list ≡ [] }
+        requires room { REPLY_ROOM ≤ payload.old.capacity }
+        ensures answers { AnswersPlan D.faults D.told (λ st. take_notices_plan st conn.0 max) result payload.new.list
+            self.old self.new }
+        ensures within { length payload.new.list ≤ REPLY_ROOM }
+        ensures keeps { payload.old.capacity ≤ payload.new.capacity }
+    {
+        told_code(self.board.take_notices(conn, max, payload))
+    }
+
     /// Answers a call: its code, and its payload.
-    fn answer_call(&mut self, conn: ConnNo, call: &Call, payload: &mut Bytes) -> Hr
+    pub(crate) fn answer_call(&mut self, conn: ConnNo, call: &Call, payload: &mut Bytes) -> Hr
         requires empty { payload.old.list ≡ [] }
         requires room { REPLY_ROOM ≤ payload.old.capacity }
         ensures answers { AnswersPlan D.faults D.told (λ st. call_plan st conn.0 call.now) result payload.new.list
@@ -84,6 +99,15 @@ impl<D: Devices, F: FrameStore> Core<D, F> {
             Call::EnumSessions { endpoint } => {
                 told_code(self.board.enum_sessions(conn, *endpoint, payload))
             }
+            Call::EnumEndpoints { flow, mask } => {
+                told_code(self.board.enum_endpoints(conn, *flow, *mask, payload))
+            }
+            Call::DeviceInfo { endpoint } => {
+                told_code(self.board.device_info(conn, *endpoint, payload))
+            }
+            Call::TakeNotices { max } | Call::AwaitNotices { max } => {
+                self.take_notices(conn, *max, payload)
+            }
             Call::GetSession { session } => {
                 told_code(self.board.get_session(conn, *session, payload))
             }
@@ -91,8 +115,9 @@ impl<D: Devices, F: FrameStore> Core<D, F> {
         }
     }
 
-    /// Answers an event: its code, and its payload.
-    fn answer(&mut self, ev: &Event, payload: &mut Bytes) -> Hr
+    /// Answers an event that is no period: its code, and its payload.
+    pub(crate) fn answer(&mut self, ev: &Event, payload: &mut Bytes) -> Hr
+        requires other { IsNoPeriod ev.now }
         requires empty { payload.old.list ≡ [] }
         requires room { REPLY_ROOM ≤ payload.old.capacity }
         ensures answers { AnswersPlan D.faults D.told (λ st. plan st ev.now) result payload.new.list
@@ -104,8 +129,9 @@ impl<D: Devices, F: FrameStore> Core<D, F> {
             Event::Open { conn, pid, name } => put(self.open(*conn, *pid, name), payload),
             Event::Hangup { conn } => put(self.hangup(*conn), payload),
             Event::Call { conn, call, .. } => self.answer_call(*conn, call, payload),
-            Event::Period { endpoint } => put(self.period(*endpoint), payload),
             Event::Device { event } => put(self.device(event), payload),
+            Event::Shutdown => put(self.shutdown(), payload),
+            Event::Period { .. } => unreachable!(),
         }
     }
 }
@@ -120,7 +146,7 @@ impl<D: Devices, F: FrameStore> Desk for Core<D, F> {
     fn ask(&mut self, ev: &Event, out: &mut Reply) -> Result<(), NoMemory> {
         out.payload.reserve(REPLY_ROOM)?;
         begin(ev, out);
-        out.result = self.answer(ev, &mut out.payload);
+        out.result = self.step(ev, &mut out.payload);
         Ok(())
     }
 }

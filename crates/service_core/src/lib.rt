@@ -10,7 +10,9 @@ mod new_ends;
 mod pending;
 mod putting;
 mod service;
+mod steps;
 mod tally;
+mod telling;
 #[cfg(test)]
 mod tests;
 mod totals;

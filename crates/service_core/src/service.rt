@@ -63,6 +63,7 @@ impl<D: Devices, F: FrameStore> Core<D, F> {
             book: _,
             seats: _,
             entries: _,
+            drafts: _,
         } = board;
         devices
     }

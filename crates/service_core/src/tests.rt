@@ -1,11 +1,17 @@
-//! What became of all frames, after each event of worked runs. The counts are worked out by hand.
+//! What became of all frames, and which notices a connection gets, after each event of worked runs. Both are worked out
+//! by hand.
 
 use super::*;
 use buffer_ring::PlainStore;
 use ca_base::values::BUFFER_SILENT;
-use ca_base::{Bytes, ClientNo, ConnNo, EndpointNo, Guid, NoMemory, Text};
-use ca_model::{Call, DeviceEvent};
+use ca_base::{Bytes, ClientNo, ConnNo, EndpointNo, Guid, Hr, NoMemory, SessionNo, Text};
+use ca_model::{Call, DeviceEvent, Event, Reply};
+use call_wire::Desk;
 use device_io::MemDevices;
+use event_notices::kinds::{
+    CLASS_DEVICES, CLASS_SESSION, DEFAULT_CHANGED, DEVICE_STATE, DISCONNECTED, SESSION_STATE,
+    SIMPLE_VOLUME,
+};
 use std::alloc::Global;
 use std::test::Fail;
 
@@ -27,6 +33,7 @@ enum Ask {
     Reset,
     Release,
     Hangup,
+    Shutdown,
     /// A period of the speakers: 480 frames.
     Period,
 }
@@ -35,7 +42,7 @@ enum Ask {
 type Row = (Ask, [u128; 5]);
 
 /// Runs of a client with a buffer of one second. The third call of the device fails.
-const RUNS: [&[Row]; 3] = [
+const RUNS: [&[Row]; 4] = [
     // of 48,480 frames two periods are rendered, and the rest is dropped as the device fails
     &[
         (Ask::Put(48_000), [48_000, 0, 48_000, 0, 0]),
@@ -57,6 +64,11 @@ const RUNS: [&[Row]; 3] = [
     &[
         (Ask::Put(5), [5, 0, 5, 0, 0]),
         (Ask::Hangup, [5, 0, 0, 0, 5]),
+    ],
+    // and 6 with the service
+    &[
+        (Ask::Put(6), [6, 0, 6, 0, 0]),
+        (Ask::Shutdown, [6, 0, 0, 0, 6]),
     ],
 ];
 
@@ -121,7 +133,8 @@ fn is_granted(core: &mut Core<MemDevices, PlainStore>, alloc: Global, ask: Ask) 
             .call(CONNECTION, &Call::Release { client: CLIENT })
             .is_ok(),
         Ask::Hangup => core.hangup(CONNECTION).is_ok(),
-        Ask::Period => core.period(SPEAKERS).is_ok(),
+        Ask::Shutdown => core.shutdown().is_ok(),
+        Ask::Period => core.period(SPEAKERS, &mut None).is_ok(),
     }
 }
 
@@ -141,6 +154,119 @@ fn each_frame_is_counted_once(rt: HostRuntime) -> Result<(), Fail> {
                 dropped,
             };
             assert_eq!(rt; core.totals(), totals);
+        }
+    }
+    Ok(())
+}
+
+/// What is asked of a desk.
+#[derive(Clone, Copy)]
+enum Told {
+    Start,
+    Mute,
+    Period,
+    Shutdown,
+}
+
+fn event_of(told: Told) -> Event {
+    let call = match told {
+        Told::Period => return Event::Period { endpoint: SPEAKERS },
+        Told::Shutdown => return Event::Shutdown,
+        Told::Start => Call::Start { client: CLIENT },
+        Told::Mute => Call::SetMute {
+            session: SessionNo(1),
+            mute: 1,
+            context: Guid(0),
+        },
+    };
+    called(call)
+}
+
+fn called(call: Call) -> Event {
+    Event::Call {
+        conn: CONNECTION,
+        tag: 0,
+        call,
+    }
+}
+
+/// The first bytes of the kind, the subject and the value of each notice that the connection takes then.
+type Notices = &'static [[u8; 3]];
+
+/// Runs of a client whose connection registered for devices, and for what happens to sessions. The third call of the
+/// device fails.
+const TOLD: [&[(Told, Notices)]; 2] = [
+    // the device that fails is NOTPRESENT, no role of playing has a default any more, and the session loses its stream
+    &[
+        (Told::Start, &[[SESSION_STATE, 1, 1]]),
+        (Told::Period, &[]),
+        (Told::Mute, &[[SIMPLE_VOLUME, 1, 1]]),
+        (Told::Mute, &[]),
+        (Told::Period, &[]),
+        (
+            Told::Period,
+            &[
+                [DEVICE_STATE, 1, 4],
+                [DEFAULT_CHANGED, 0, 0],
+                [DEFAULT_CHANGED, 1, 0],
+                [DEFAULT_CHANGED, 2, 0],
+                [DISCONNECTED, 1, 0],
+                [SESSION_STATE, 1, 0],
+            ],
+        ),
+    ],
+    &[
+        (Told::Start, &[[SESSION_STATE, 1, 1]]),
+        (
+            Told::Shutdown,
+            &[[DISCONNECTED, 1, 1], [SESSION_STATE, 1, 0]],
+        ),
+        (Told::Shutdown, &[]),
+    ],
+];
+
+/// The bytes of a notice without a text, and those before the notices of a payload.
+const NOTICE: usize = 35;
+
+const HEAD: usize = 16;
+
+/// Whether a payload of TakeNotices has these notices, all without a text.
+fn has_notices(payload: &[u8], notices: &[[u8; 3]]) -> bool {
+    let Some(rest) = payload.get(HEAD..) else {
+        return false;
+    };
+    rest.len() / NOTICE == notices.len()
+        && rest.chunks(NOTICE).zip(notices.iter()).all(|(n, [kind, subject, value])| {
+            n.get(0) == Some(kind) && n.get(1) == Some(subject) && n.get(25) == Some(value)
+        })
+}
+
+/// What a desk replies to an event.
+fn replied<D: Desk>(desk: &mut D, alloc: Global, event: &Event) -> Result<Reply, NoMemory> {
+    let mut reply = Reply {
+        kind: 0,
+        conn: 0,
+        tag: 0,
+        result: Hr::S_OK,
+        payload: Bytes::new(alloc),
+    };
+    desk.ask(event, &mut reply)?;
+    Ok(reply)
+}
+
+#[test]
+fn each_notice_is_told_once(rt: HostRuntime) -> Result<(), Fail> {
+    let alloc = rt.alloc();
+    for run in &TOLD {
+        let mut core = opened(alloc)?;
+        for class in [CLASS_DEVICES, CLASS_SESSION] {
+            let register = called(Call::Register { class, subject: 0 });
+            assert_eq!(rt; replied(&mut core, alloc, &register)?.result, Hr::S_OK);
+        }
+        for (told, notices) in *run {
+            replied(&mut core, alloc, &event_of(*told))?;
+            let taken = replied(&mut core, alloc, &called(Call::TakeNotices { max: 64 }))?;
+            assert!(rt; has_notices(taken.payload.as_slice(), notices));
         }
     }
     Ok(())

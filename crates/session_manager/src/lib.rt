@@ -12,6 +12,7 @@ mod setting;
 
 pub use book::SessionBook;
 pub use changes::Change;
+pub use names::guid_text;
 pub use session::{CHANNELS, Kept, Session, SessionKey};
 
 #[cfg(test)]

@@ -43,6 +43,15 @@ fn add_guid(out: &mut ArrayVec<u8, MAX_TEXT>, guid: Guid)
     add(out, text.as_bytes());
 }
 
+/// A GUID as a text: 36 bytes, in hexadecimal digits of lower case and hyphens (RFC 9562).
+pub fn guid_text(guid: Guid) -> Text
+    ensures { result ≡ guid_text guid.0 }
+{
+    let mut out = ArrayVec::new();
+    add_guid(&mut out, guid);
+    Text::new(out.as_slice())
+}
+
 /// A session's identifier: 57 bytes at most beside the name.
 fn put_identifier(s: &Session, out: &mut ArrayVec<u8, MAX_TEXT>)
     requires empty { array_vec_len out.old ≡ 0 }

@@ -8,10 +8,7 @@ use Rattle.buffer_ring.specs.declared.step.Step.TheVariants as step
 use Rattle.ca_base.specs.declared.ids.Gate.TheVariants as gate
 use Rattle.period_engine.specs.Entries.{stream_with}
 use Rattle.service_board.proofs.streams.empty.Goals as goal
-use Rattle.service_board.proofs.streams.empty.Goals.{
-  else-held-eq0-via-then-held-eq0+else-entry-eq0,
-  else-held-eq0-via-else-held-eq0,
-}
+use Rattle.service_board.proofs.streams.empty.Goals.{else-held-eq0-via-then-held-eq0+else-entry-eq0, else-held-eq0-via-else-held-eq0}
 
 -- a test that fails, behind another
 position_told : (a b : Bool) → b ≡ false → (a && b) ≡ false

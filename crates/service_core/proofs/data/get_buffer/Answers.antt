@@ -22,7 +22,7 @@ returns-in_err-lease-clause-goes g c tally =
     g.met.F.FrameStore.whole
     c.args.conn.0 c.args.client.0 c.args.board.now _ c.in_ok-at.at c.index_mut.result.now c.lease.new.entry
     c.requires.order c.requires.sides c.in_ok-at.ensures.found c.index_mut.ensures.value
-    (record { devices = refl; book = refl; seats = refl; seat_room = refl; entries = refl; room = refl })
+    (record { devices = refl; book = refl; seats = refl; seat_room = refl; draft_room = refl; entries = refl; room = refl })
     c.in_err-lease.ensures.refused.same
     c.in_err-lease.ensures.refused (data_call.Get c.args.frames)
     (λ st s. granted [] (of_client c.args.client.0 (leased c.args.frames) ∷ []) st)
@@ -33,7 +33,7 @@ returns-in_err-lease-clause-order g c =
     looked_order g.D.Devices.faults g.D.Devices.told g.F.FrameStore.kept g.F.EngineSide.state g.met.F.FrameStore.whole
     c.args.conn.0 c.args.client.0 c.args.board.now _ c.in_ok-at.at c.index_mut.result.now c.lease.new.entry
     c.requires.order c.requires.sides c.in_ok-at.ensures.found c.index_mut.ensures.value
-    (record { devices = refl; book = refl; seats = refl; seat_room = refl; entries = refl; room = refl })
+    (record { devices = refl; book = refl; seats = refl; seat_room = refl; draft_room = refl; entries = refl; room = refl })
     c.in_err-lease.ensures.refused.same
     c.in_err-lease.ensures.refused
 
@@ -42,7 +42,7 @@ returns-clause-goes g c tally =
     leased_goes g.D.Devices.faults g.D.Devices.told g.F.FrameStore.kept g.F.EngineSide.state g.met.F.FrameStore.whole
     c.args.conn.0 c.args.client.0 c.args.board.now _ c.in_ok-at.at c.index_mut.result.now c.lease.new.entry
     c.requires.order c.requires.sides c.in_ok-at.ensures.found c.index_mut.ensures.value
-    (record { devices = refl; book = refl; seats = refl; seat_room = refl; entries = refl; room = refl })
+    (record { devices = refl; book = refl; seats = refl; seat_room = refl; draft_room = refl; entries = refl; room = refl })
     c.in_ok-lease.ensures.leased.same
     c.args.frames c.in_ok-lease.ensures.leased c.in_ok-lease.ensures.row tally
 
@@ -51,6 +51,6 @@ returns-clause-order g c =
     leased_order g.D.Devices.faults g.D.Devices.told g.F.FrameStore.kept g.F.EngineSide.state g.met.F.FrameStore.whole
     c.args.conn.0 c.args.client.0 c.args.board.now _ c.in_ok-at.at c.index_mut.result.now c.lease.new.entry
     c.requires.order c.requires.sides c.in_ok-at.ensures.found c.index_mut.ensures.value
-    (record { devices = refl; book = refl; seats = refl; seat_room = refl; entries = refl; room = refl })
+    (record { devices = refl; book = refl; seats = refl; seat_room = refl; draft_room = refl; entries = refl; room = refl })
     c.in_ok-lease.ensures.leased.same
     c.args.frames c.in_ok-lease.ensures.leased c.in_ok-lease.ensures.row

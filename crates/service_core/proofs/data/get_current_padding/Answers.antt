@@ -22,7 +22,7 @@ returns-in_err-words-clause-goes g c tally =
     g.met.F.FrameStore.whole
     c.args.conn.0 c.args.client.0 c.args.board.now _ c.in_ok-at.at c.index_mut.result.now c.check.new.entry
     c.requires.order c.requires.sides c.in_ok-at.ensures.found c.index_mut.ensures.value
-    (record { devices = refl; book = refl; seats = refl; seat_room = refl; entries = refl; room = refl })
+    (record { devices = refl; book = refl; seats = refl; seat_room = refl; draft_room = refl; entries = refl; room = refl })
     c.in_err-words.ensures.looked.same
     c.in_err-words.ensures.looked (data_call.Padding) (λ st s. answered st (to_le_bytes w32 (padding s)))
     c.in_err-words.field-0.0 c.in_err-words.ensures.row tally)
@@ -32,7 +32,7 @@ returns-in_err-words-clause-order g c =
     looked_order g.D.Devices.faults g.D.Devices.told g.F.FrameStore.kept g.F.EngineSide.state g.met.F.FrameStore.whole
     c.args.conn.0 c.args.client.0 c.args.board.now _ c.in_ok-at.at c.index_mut.result.now c.check.new.entry
     c.requires.order c.requires.sides c.in_ok-at.ensures.found c.index_mut.ensures.value
-    (record { devices = refl; book = refl; seats = refl; seat_room = refl; entries = refl; room = refl })
+    (record { devices = refl; book = refl; seats = refl; seat_room = refl; draft_room = refl; entries = refl; room = refl })
     c.in_err-words.ensures.looked.same
     c.in_err-words.ensures.looked
 
@@ -41,7 +41,7 @@ returns-clause-goes g c tally =
     padding_goes g.D.Devices.faults g.D.Devices.told g.F.FrameStore.kept g.F.EngineSide.state g.met.F.FrameStore.whole
     c.args.conn.0 c.args.client.0 c.args.board.now _ c.in_ok-at.at c.index_mut.result.now c.check.new.entry
     c.requires.order c.requires.sides c.in_ok-at.ensures.found c.index_mut.ensures.value
-    (record { devices = refl; book = refl; seats = refl; seat_room = refl; entries = refl; room = refl })
+    (record { devices = refl; book = refl; seats = refl; seat_room = refl; draft_room = refl; entries = refl; room = refl })
     c.in_ok-words.ensures.looked.same
     c.in_ok-words.ensures.looked c.in_ok-words.words c.in_ok-words.ensures.count c.in_ok-words.ensures.row tally
 
@@ -50,6 +50,6 @@ returns-clause-order g c =
     looked_order g.D.Devices.faults g.D.Devices.told g.F.FrameStore.kept g.F.EngineSide.state g.met.F.FrameStore.whole
     c.args.conn.0 c.args.client.0 c.args.board.now _ c.in_ok-at.at c.index_mut.result.now c.check.new.entry
     c.requires.order c.requires.sides c.in_ok-at.ensures.found c.index_mut.ensures.value
-    (record { devices = refl; book = refl; seats = refl; seat_room = refl; entries = refl; room = refl })
+    (record { devices = refl; book = refl; seats = refl; seat_room = refl; draft_room = refl; entries = refl; room = refl })
     c.in_ok-words.ensures.looked.same
     c.in_ok-words.ensures.looked

@@ -24,7 +24,7 @@ returns-in_err-release-clause-goes g c tally =
     g.met.F.FrameStore.whole
     c.args.conn.0 c.args.client.0 c.args.board.now _ c.in_ok-at.at c.index_mut.result.now c.release.new.entry
     c.requires.order c.requires.sides c.in_ok-at.ensures.found c.index_mut.ensures.value
-    (record { devices = refl; book = refl; seats = refl; seat_room = refl; entries = refl; room = refl })
+    (record { devices = refl; book = refl; seats = refl; seat_room = refl; draft_room = refl; entries = refl; room = refl })
     c.in_err-release.ensures.refused.same
     c.in_err-release.ensures.refused (data_call.Release c.args.frames c.args.flags (length c.args.bytes.now)) (λ st s.
     granted [] (of_client c.args.client.0 (released (frames_released c.args.frames c.args.flags c.args.bytes.now
@@ -36,7 +36,7 @@ returns-in_err-release-clause-order g c =
     looked_order g.D.Devices.faults g.D.Devices.told g.F.FrameStore.kept g.F.EngineSide.state g.met.F.FrameStore.whole
     c.args.conn.0 c.args.client.0 c.args.board.now _ c.in_ok-at.at c.index_mut.result.now c.release.new.entry
     c.requires.order c.requires.sides c.in_ok-at.ensures.found c.index_mut.ensures.value
-    (record { devices = refl; book = refl; seats = refl; seat_room = refl; entries = refl; room = refl })
+    (record { devices = refl; book = refl; seats = refl; seat_room = refl; draft_room = refl; entries = refl; room = refl })
     c.in_err-release.ensures.refused.same
     c.in_err-release.ensures.refused
 
@@ -45,7 +45,7 @@ returns-clause-goes g c tally =
     released_goes g.D.Devices.faults g.D.Devices.told g.F.FrameStore.kept g.F.EngineSide.state g.met.F.FrameStore.whole
     c.args.conn.0 c.args.client.0 c.args.board.now _ c.in_ok-at.at c.index_mut.result.now c.release.new.entry
     c.requires.order c.requires.sides c.in_ok-at.ensures.found c.index_mut.ensures.value
-    (record { devices = refl; book = refl; seats = refl; seat_room = refl; entries = refl; room = refl })
+    (record { devices = refl; book = refl; seats = refl; seat_room = refl; draft_room = refl; entries = refl; room = refl })
     c.in_ok-release.ensures.released.same
     (frames_released c.args.frames c.args.flags c.args.bytes.now) c.args.frames c.args.flags
     (length c.args.bytes.now) (omega arith) c.in_ok-release.ensures.released c.in_ok-release.ensures.row tally
@@ -55,7 +55,7 @@ returns-clause-order g c =
     released_order g.D.Devices.faults g.D.Devices.told g.F.FrameStore.kept g.F.EngineSide.state g.met.F.FrameStore.whole
     c.args.conn.0 c.args.client.0 c.args.board.now _ c.in_ok-at.at c.index_mut.result.now c.release.new.entry
     c.requires.order c.requires.sides c.in_ok-at.ensures.found c.index_mut.ensures.value
-    (record { devices = refl; book = refl; seats = refl; seat_room = refl; entries = refl; room = refl })
+    (record { devices = refl; book = refl; seats = refl; seat_room = refl; draft_room = refl; entries = refl; room = refl })
     c.in_ok-release.ensures.released.same
     (frames_released c.args.frames c.args.flags c.args.bytes.now) c.args.frames c.args.flags
     (length c.args.bytes.now) (omega arith) c.in_ok-release.ensures.released c.in_ok-release.ensures.row

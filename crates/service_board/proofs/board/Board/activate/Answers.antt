@@ -6,13 +6,7 @@ use Rattle.ca_machine.specs.Clients.{activate_plan, new_client}
 use Rattle.service_board.specs.Does.{AnyData}
 use Rattle.service_board.proofs.Doing.{refused_does}
 use Rattle.service_board.proofs.Granting.{book_does}
-use Rattle.service_board.proofs.Activating.{
-  activate_grants,
-  activated_order,
-  client_owned,
-  clients_free,
-  full_levels,
-}
+use Rattle.service_board.proofs.Activating.{activate_grants, activated_order, client_owned, clients_free, full_levels}
 use Rattle.service_board.proofs.board.Board.activate.Goals as goal
 
 pub returns-in_err-check_activate-clause-does : goal.returns-in_err-check_activate-clause-does

@@ -1,11 +1,12 @@
-use Rattle.std.proofs.Common.{◌*◌, ap, sym, None, arith, refl}
+use Rattle.std.proofs.Common.{◌*◌, ◌∙◌, ap, sym, None, arith, refl}
+use Rattle.std.proofs.lemmas.Option.{none-some}
 use Rattle.std.proofs.lemmas.Result.{err_from_is_err_and}
 use Rattle.ca_machine.specs.Devices.{add_plan, new_endpoint}
 use Rattle.wave_format.specs.declared.format.Format.{Format}
 use Rattle.wave_format.proofs.FormatLaws.{read-valid}
 use Rattle.service_board.specs.Does.{AnyData}
 use Rattle.service_board.proofs.AddDoes.{add_does, added_order, free_to_add, no_memory}
-use Rattle.service_board.proofs.AddRows.{read_is}
+use Rattle.service_board.proofs.AddRows.{free_rows, read_is}
 use Rattle.service_board.proofs.Doing.{refused_does}
 use Rattle.service_board.proofs.DuePeriods.{seats_length}
 use Rattle.service_board.proofs.board.Board.add.Goals as goal
@@ -24,22 +25,27 @@ returns-in_default-clause-does g c =
     c.args.name.now c.in_ok-format.ensures.free g.D.Devices.faults g.D.Devices.told g.E.EngineSide.moves
     g.met.E.EngineSide.none
 
+pub add-requires-clause-format : goal.add-requires-clause-format
+add-requires-clause-format g c = read-valid c.args.format.now c.in_ok-format.format c.in_ok-format.ensures.format
+
+pub unreachable-requires : goal.unreachable-requires
+unreachable-requires g c =
+    let b = c.args.self.now in
+    let free =
+    free_to_add g.E.EngineSide.state b c.requires.order c.args.number.0 c.args.flow c.args.format.now c.args.name.now
+    c.in_ok-format.ensures.free in
+    none-some c.in_default-add.field-0
+    (sym (c.in_default-add.ensures.says
+    ∙ free_rows b.book.registry c.args.number.0 free))
+
 pub push_reserved-requires : goal.push_reserved-requires
 push_reserved-requires g c =
     let free =
     free_to_add g.E.EngineSide.state c.args.self.now c.requires.order c.args.number.0 c.args.flow c.args.format.now
     c.args.name.now c.in_ok-format.ensures.free in
-    let room = c.requires.order.book.rooms.endpoints in
-    omega (arith, free.0)
-
-pub push_reserved-requires-2 : goal.push_reserved-requires-2
-push_reserved-requires-2 g c =
-    let free =
-    free_to_add g.E.EngineSide.state c.args.self.now c.requires.order c.args.number.0 c.args.flow c.args.format.now
-    c.args.name.now c.in_ok-format.ensures.free in
     let room = c.requires.order.seat_room in
     let same =
-    seats_length c.args.self.now.seats.items c.args.self.now.book.endpoints.items c.requires.order.seats in
+    seats_length c.args.self.now.seats.items c.args.self.now.book.registry.list c.requires.order.seats in
     omega (arith, free.0)
 
 pub returns-clause-does : goal.returns-clause-does
@@ -50,13 +56,10 @@ returns-clause-does g c =
     let format = c.in_ok-format.format in
     add_does g.E.EngineSide.state b c.requires.order number c.args.flow bytes c.args.name.now
     c.in_ok-format.ensures.free
-    (record b {
-      book = record (b.book) { endpoints = c.push_reserved.new.self; last_endpoint = number };
-      seats = c.push_reserved-2.new.self;
-    })
+    (record b { book = record (b.book) { registry = c.add.new.self }; seats = c.push_reserved.new.self })
     (record (new_endpoint number bytes c.args.name.now) { format = format })
-    (record { endpoint = c.args.number; next = 0; block = c.in-Ok.block }) c.push_reserved.ensures.items
-    c.push_reserved-2.ensures.items
+    (record { endpoint = c.args.number; next = 0; block = c.in-Ok.block }) c.in-Ok-add.ensures.now
+    c.push_reserved.ensures.items
     (ap (λ (f : Format). record (new_endpoint number bytes c.args.name.now) { format = f })
     (read_is bytes format c.in_ok-format.ensures.format).1)
     refl g.D.Devices.faults g.D.Devices.told g.E.EngineSide.moves g.met.E.EngineSide.none
@@ -69,16 +72,13 @@ returns-clause-order g c =
     let format = c.in_ok-format.format in
     added_order g.E.EngineSide.state b c.requires.order number c.args.flow bytes c.args.name.now
     c.in_ok-format.ensures.free
-    (record b {
-      book = record (b.book) { endpoints = c.push_reserved.new.self; last_endpoint = number };
-      seats = c.push_reserved-2.new.self;
-    })
+    (record b { book = record (b.book) { registry = c.add.new.self }; seats = c.push_reserved.new.self })
     (record (new_endpoint number bytes c.args.name.now) { format = format })
-    (record { endpoint = c.args.number; next = 0; block = c.in-Ok.block }) c.push_reserved.ensures.items
-    c.push_reserved-2.ensures.items
+    (record { endpoint = c.args.number; next = 0; block = c.in-Ok.block }) c.in-Ok-add.ensures.now
+    c.push_reserved.ensures.items
     (ap (λ (f : Format). record (new_endpoint number bytes c.args.name.now) { format = f })
     (read_is bytes format c.in_ok-format.ensures.format).1)
-    refl c.push_reserved.ensures.capacity c.push_reserved-2.ensures.capacity
+    refl c.push_reserved.ensures.capacity
     (record {
       number = refl;
       next = omega arith;

@@ -24,29 +24,29 @@ returns-then-not-is_role g c =
     wrong_role c.args.self.now c.args.conn.0 c.args.endpoint.0 c.args.role c.in_ok-connected.ensures c.in-Some.place
     c.in-Some.ensures c.if-not-is_role.ensures
 
-pub returns-then-index-ne-STATE_ACTIVE : goal.returns-then-index-ne-STATE_ACTIVE
-returns-then-index-ne-STATE_ACTIVE g c =
+pub returns-then-endpoint-ne-STATE_ACTIVE : goal.returns-then-endpoint-ne-STATE_ACTIVE
+returns-then-endpoint-ne-STATE_ACTIVE g c =
     inactive c.args.self.now c.args.conn.0 c.args.endpoint.0 c.args.role c.in_ok-connected.ensures c.in-Some.place
-    c.index.result.now c.in-Some.ensures c.index.ensures c.if-not-is_role.ensures
-    (ap not (ne_eqb c.index.result.now.state STATE_ACTIVE c.if-index-ne-STATE_ACTIVE.true))
+    c.endpoint.result.now c.in-Some.ensures c.endpoint.ensures c.if-not-is_role.ensures
+    (ap not (ne_eqb c.endpoint.result.now.state STATE_ACTIVE c.if-endpoint-ne-STATE_ACTIVE.true))
 
 pub returns-then-len-ge-CLIENTS : goal.returns-then-len-ge-CLIENTS
 returns-then-len-ge-CLIENTS g c =
     full c.args.self.now c.args.conn.0 c.args.endpoint.0 c.args.role c.in_ok-connected.ensures c.in-Some.place
-    c.index.result.now c.in-Some.ensures c.index.ensures c.if-not-is_role.ensures
-    (ap not (eq-eqb c.index.result.now.state STATE_ACTIVE c.if-index-ne-STATE_ACTIVE.false))
+    c.endpoint.result.now c.in-Some.ensures c.endpoint.ensures c.if-not-is_role.ensures
+    (ap not (eq-eqb c.endpoint.result.now.state STATE_ACTIVE c.if-endpoint-ne-STATE_ACTIVE.false))
     (grind (arith, nat_tests))
 
 pub returns-then-self-ge-MAX_COUNT : goal.returns-then-self-ge-MAX_COUNT
 returns-then-self-ge-MAX_COUNT g c =
     worn c.args.self.now c.args.conn.0 c.args.endpoint.0 c.args.role c.in_ok-connected.ensures c.in-Some.place
-    c.index.result.now c.in-Some.ensures c.index.ensures c.if-not-is_role.ensures
-    (ap not (eq-eqb c.index.result.now.state STATE_ACTIVE c.if-index-ne-STATE_ACTIVE.false))
+    c.endpoint.result.now c.in-Some.ensures c.endpoint.ensures c.if-not-is_role.ensures
+    (ap not (eq-eqb c.endpoint.result.now.state STATE_ACTIVE c.if-endpoint-ne-STATE_ACTIVE.false))
     (grind (arith, nat_tests)) (grind (arith, nat_tests))
 
 pub returns : goal.returns
 returns g c =
     free c.args.self.now c.args.conn.0 c.args.endpoint.0 c.args.role c.in_ok-connected.ensures c.in-Some.place
-    c.index.result.now c.in-Some.ensures c.index.ensures c.if-not-is_role.ensures
-    (ap not (eq-eqb c.index.result.now.state STATE_ACTIVE c.if-index-ne-STATE_ACTIVE.false))
+    c.endpoint.result.now c.in-Some.ensures c.endpoint.ensures c.if-not-is_role.ensures
+    (ap not (eq-eqb c.endpoint.result.now.state STATE_ACTIVE c.if-endpoint-ne-STATE_ACTIVE.false))
     (grind (arith, nat_tests)) (grind (arith, nat_tests))

@@ -43,7 +43,7 @@ returns g c =
           g.met.E.EngineSide.none c.args.self.now
           (λ st. control_rows c.args.conn.0 st ++ endpoint_rows st c.args.conn.0 c.args.client.0)
           (λ st. (get_mix_format_plan st c.args.conn.0 c.args.client.0).grants [])
-          hr.S_OK (format_payload c.index.result.now.format)
+          hr.S_OK (format_payload c.endpoint.result.now.format)
           (says_later c.args.self.now (control_rows c.args.conn.0)
           (λ st. endpoint_rows st c.args.conn.0 c.args.client.0) None
           c.in_ok-connected.ensures f.says)
@@ -51,6 +51,6 @@ returns g c =
           endpoint_there c.args.self.now c.args.conn.0 c.args.client.0 c.in_ok-at.at f
           (λ st e. answered st (format_payload e.format)) datas tally
           ∙ ap (λ e. answered (state_of datas tally c.args.self.now) (format_payload e.format))
-          (endpoint_read c.args.self.now.book f.named.endpoint.0 c.in_ok-at.at c.index.result.now f.active
-          c.index.ensures));
+          (endpoint_read c.args.self.now.book f.named.endpoint.0 c.in_ok-at.at c.endpoint.result.now f.active
+          c.endpoint.ensures));
     }

@@ -3,7 +3,7 @@ use Rattle.ca_machine.specs.SharedRows.{stream_rows}
 use Rattle.ca_machine.specs.Streams.{get_stream_level_rows}
 use Rattle.ca_stage.specs.Moves.{stream_at}
 use Rattle.service_board.specs.Does.{AnyData}
-use Rattle.service_board.specs.Lookups.{client_call_rows}
+use Rattle.service_board.specs.Lookups.{client_control_rows}
 use Rattle.service_board.proofs.LookingUp.{says_front}
 use Rattle.service_board.proofs.SettingLevels.{named_there}
 use Rattle.service_board.proofs.StreamLevels.{get_refused, get_told, tells_level}
@@ -17,7 +17,7 @@ returns-in_err-place g c =
       does = stream_refused g.D.Devices.faults g.D.Devices.told g.E.EngineSide.moves g.met.E.EngineSide.none
           c.args.self.now c.args.conn.0 c.args.client.0 (get_stream_level_rows c.args.channel)
           (tells_level c.args.conn.0 c.args.client.0 c.args.channel) AnyData c.in_err-place.field-0.0
-          (says_front c.args.self.now (client_call_rows c.args.conn.0 c.args.client.0)
+          (says_front c.args.self.now (client_control_rows c.args.conn.0 c.args.client.0)
           (λ st. stream_rows (stream_at c.args.client.0 st.stage)) c.in_err-place.field-0.0
           c.in_err-place.ensures.refused);
     })
@@ -49,5 +49,5 @@ returns g c = record {
       c.in_ok-at.ensures.found c.index.ensures)
       c.if-channel-index.false c.in_ok-place.place c.index-2.result.now
       (named_there c.args.self.now c.args.conn.0 c.args.client.0 c.in_ok-place.place c.index-2.result.now
-      c.in_ok-place.ensures.found c.index-2.ensures);
+      c.in_ok-place.ensures.found.0 c.index-2.ensures);
 }

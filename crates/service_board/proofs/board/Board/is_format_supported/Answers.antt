@@ -61,5 +61,5 @@ returns g c = record {
   does = tells_support g.D.Devices.faults g.D.Devices.told g.E.EngineSide.moves
       g.met.E.EngineSide.none c.args.self.now c.args.conn.0 c.args.client.0 c.args.share c.args.format.now
       c.in_ok-connected.ensures c.if-share-eq-SHARE_EXCLUSIVE.false c.if-share-gt-SHARE_EXCLUSIVE.false
-      c.in_ok-at.at c.in_ok-at.ensures.found c.index.result.now c.index.ensures c.support.result c.support.ensures;
+      c.in_ok-at.at c.in_ok-at.ensures.found c.endpoint.result.now c.endpoint.ensures c.support.result c.support.ensures;
 }

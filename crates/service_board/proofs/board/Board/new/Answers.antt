@@ -10,6 +10,8 @@ returns-clause-new g c =
       book = c.in-Ok.book;
       seats = c.in-Ok-with_capacity.seats;
       entries = c.in-Ok-with_capacity-2.entries;
+      drafts = c.in-Ok-with_capacity-3.drafts;
     })
     c.in-Ok.ensures c.in-Ok-with_capacity.ensures.items c.in-Ok-with_capacity-2.ensures.items
     (omega (arith, c.in-Ok-with_capacity.ensures.exact)) (omega (arith, c.in-Ok-with_capacity-2.ensures.exact))
+    (omega (arith, c.in-Ok-with_capacity-3.ensures.exact))

@@ -1,5 +1,11 @@
 use Rattle.service_board.proofs.board.Board.plain_call.Goals as goal
 
+pub returns-in-GetDefault-clause-does : goal.returns-in-GetDefault-clause-does
+returns-in-GetDefault-clause-does g c = rw c.in-GetDefault.is c.get_default.ensures.does
+
+pub returns-in-GetDevice-clause-does : goal.returns-in-GetDevice-clause-does
+returns-in-GetDevice-clause-does g c = rw c.in-GetDevice.is c.get_device.ensures.does
+
 pub returns-in-Activate-clause-does : goal.returns-in-Activate-clause-does
 returns-in-Activate-clause-does g c = rw c.in-Activate.is c.activate.ensures.does
 
@@ -36,6 +42,12 @@ returns-in-GetStreamLevel-clause-does g c = rw c.in-GetStreamLevel.is c.get_stre
 
 pub returns-in-SetStreamLevel-clause-does : goal.returns-in-SetStreamLevel-clause-does
 returns-in-SetStreamLevel-clause-does g c = rw c.in-SetStreamLevel.is c.set_stream_level.ensures.does
+
+pub returns-in-Register-clause-does : goal.returns-in-Register-clause-does
+returns-in-Register-clause-does g c = rw c.in-Register.is c.register.ensures.does
+
+pub returns-in-Unregister-clause-does : goal.returns-in-Unregister-clause-does
+returns-in-Unregister-clause-does g c = rw c.in-Unregister.is c.unregister.ensures.does
 
 pub returns-in-Other-clause-does : goal.returns-in-Other-clause-does
 returns-in-Other-clause-does g c = rw c.in-Other.is c.unlisted_call.ensures

@@ -5,47 +5,33 @@ use Rattle.ca_base.specs.Rows.{first}
 use Rattle.session_manager.specs.Rows.{join_rows}
 use Rattle.ca_machine.specs.State.{is_connection}
 use Rattle.service_board.proofs.Joining.{found_there}
-use Rattle.service_board.proofs.Planning.{
-  at_arguments,
-  at_control,
-  at_endpoint,
-  at_format,
-  at_later,
-  at_session,
-  at_stream,
-  connected_says,
-  format_says,
-  no_entry,
-  number_read,
-  opening_refused,
-  past_endpoint,
-  past_five,
-  past_format,
-  past_later,
-  past_session,
-  past_stream,
-  read_endpoint,
-  session_says,
-  stream_refuses,
-  there_read,
-  unconnected_says,
-  within,
-}
+use Rattle.service_board.proofs.Planning.{at_arguments, at_control, at_endpoint, at_format, at_later, at_session, at_stream, connected_says, format_says, no_entry, number_read, opening_refused, past_endpoint, past_five, past_format, past_later, past_session, past_stream, read_endpoint, session_says, shut_says, stream_refuses, there_read, unconnected_says, within}
 use Rattle.service_board.proofs.board.Board.plan_initialize.Goals as goal
 
 pub returns-in_default-clause-refused : goal.returns-in_default-clause-refused
 returns-in_default-clause-refused g c =
     opening_refused g.D.Devices.faults g.D.Devices.told g.E.EngineSide.moves g.met.E.EngineSide.none c.args.self.now
     c.args.x.now hr.E_HANDLE
-    (at_control c.args.self.now c.args.x.now (unconnected_says c.args.self.now c.args.x.now c.in_default.ensures))
+    (at_control c.args.self.now c.args.x.now hr.E_HANDLE
+    (unconnected_says c.args.self.now c.args.x.now c.in_default.ensures))
+
+pub returns-in_err-runs-clause-refused : goal.returns-in_err-runs-clause-refused
+returns-in_err-runs-clause-refused g c =
+    let p = err_from_is_err_and c.from_residual.result c.from_residual.ensures.1 in
+    rw (p.1, p.2) (opening_refused g.D.Devices.faults g.D.Devices.told g.E.EngineSide.moves g.met.E.EngineSide.none
+    c.args.self.now c.args.x.now c.in_err-runs.field-0.0
+    (at_control c.args.self.now c.args.x.now c.in_err-runs.field-0.0
+    (shut_says c.args.self.now c.args.x.now c.in-Some.from c.in_err-runs.field-0.0 c.in-Some.ensures
+    c.in_err-runs.ensures)))
 
 pub returns-in_err-check_later-clause-refused : goal.returns-in_err-check_later-clause-refused
 returns-in_err-check_later-clause-refused g c =
-    let p = err_from_is_err_and c.from_residual.result c.from_residual.ensures.1 in
+    let p = err_from_is_err_and c.from_residual-in_err-check_later.result
+    c.from_residual-in_err-check_later.ensures.1 in
     rw (p.1, p.2) (opening_refused g.D.Devices.faults g.D.Devices.told g.E.EngineSide.moves g.met.E.EngineSide.none
     c.args.self.now c.args.x.now c.in_err-check_later.field-0.0
     (at_later c.args.self.now c.args.x.now c.in_err-check_later.field-0.0 c.in_err-check_later.ensures
-    (connected_says c.args.self.now c.args.x.now c.in-Some.from c.in-Some.ensures)))
+    (connected_says c.args.self.now c.args.x.now c.in-Some.from c.in-Some.ensures c.in_ok-runs.ensures)))
 
 pub returns-in_err-place-clause-refused : goal.returns-in_err-place-clause-refused
 returns-in_err-place-clause-refused g c =
@@ -54,7 +40,7 @@ returns-in_err-place-clause-refused g c =
     c.args.self.now c.args.x.now c.in_err-place.field-0.0
     (at_endpoint c.args.self.now c.args.x.now c.in_err-place.field-0.0 c.in_err-place.ensures.refused
     (past_later c.args.self.now c.args.x.now
-    (connected_says c.args.self.now c.args.x.now c.in-Some.from c.in-Some.ensures) c.in_ok-check_later.ensures)))
+    (connected_says c.args.self.now c.args.x.now c.in-Some.from c.in-Some.ensures c.in_ok-runs.ensures) c.in_ok-check_later.ensures)))
 
 pub returns-then-is_some-clause-refused : goal.returns-then-is_some-clause-refused
 returns-then-is_some-clause-refused g c =
@@ -64,7 +50,7 @@ returns-then-is_some-clause-refused g c =
     (stream_refuses c.args.self.now c.args.x.now c.entry_place.result c.entry_place.ensures (sym c.if-is_some.ensures))
     (past_endpoint c.args.self.now c.args.x.now c.in_ok-place.place c.in_ok-place.ensures.found
     (past_later c.args.self.now c.args.x.now
-    (connected_says c.args.self.now c.args.x.now c.in-Some.from c.in-Some.ensures) c.in_ok-check_later.ensures)))
+    (connected_says c.args.self.now c.args.x.now c.in-Some.from c.in-Some.ensures c.in_ok-runs.ensures) c.in_ok-check_later.ensures)))
 
 pub returns-in_err-check_arguments-clause-refused :
     goal.returns-in_err-check_arguments-clause-refused
@@ -79,10 +65,10 @@ returns-in_err-check_arguments-clause-refused g c =
     (at_arguments b x c.in_err-check_arguments.field-0.0 c.in_err-check_arguments.ensures
     (past_stream b x none
     (past_endpoint b x c.in_ok-place.place c.in_ok-place.ensures.found
-    (past_later b x (connected_says b x c.in-Some.from c.in-Some.ensures) c.in_ok-check_later.ensures)))))
+    (past_later b x (connected_says b x c.in-Some.from c.in-Some.ensures c.in_ok-runs.ensures) c.in_ok-check_later.ensures)))))
 
-pub index-endpoint-requires : goal.index-endpoint-requires
-index-endpoint-requires g c = within c.args.self.now c.args.x.now c.in_ok-place.place c.in_ok-place.ensures.found
+pub endpoint-endpoint-requires : goal.endpoint-endpoint-requires
+endpoint-endpoint-requires g c = within c.args.self.now c.args.x.now c.in_ok-place.place c.in_ok-place.ensures.found
 
 pub returns-in_err-format-clause-refused : goal.returns-in_err-format-clause-refused
 returns-in_err-format-clause-refused g c =
@@ -91,13 +77,13 @@ returns-in_err-format-clause-refused g c =
     let x = c.args.x.now in
     let at = c.in_ok-place.place in
     let found = c.in_ok-place.ensures.found in
-    let e = c.index-endpoint.result.now in
-    let same = read_endpoint b x at found e c.index-endpoint.ensures in
+    let e = c.endpoint-endpoint.result.now in
+    let same = read_endpoint b x at found e c.endpoint-endpoint.ensures in
     let none = no_entry b x c.entry_place.result c.entry_place.ensures (sym c.if-is_some.ensures) in
     rw (p.1, p.2) (opening_refused g.D.Devices.faults g.D.Devices.told g.E.EngineSide.moves g.met.E.EngineSide.none b x
     c.in_err-format.field-0.0
     (at_format b x c.in_err-format.field-0.0 (format_says b x at found e same (Some c.in_err-format.field-0.0) c.in_err-format.ensures.says)
-    (past_five b x c.in-Some.from at c.in-Some.ensures c.in_ok-check_later.ensures found none
+    (past_five b x c.in-Some.from at c.in-Some.ensures c.in_ok-runs.ensures c.in_ok-check_later.ensures found none
     c.in_ok-check_arguments.ensures)))
 
 pub returns-in_err-check_join-clause-refused : goal.returns-in_err-check_join-clause-refused
@@ -108,8 +94,8 @@ returns-in_err-check_join-clause-refused g c =
     let x = c.args.x.now in
     let at = c.in_ok-place.place in
     let found = c.in_ok-place.ensures.found in
-    let e = c.index-endpoint.result.now in
-    let same = read_endpoint b x at found e c.index-endpoint.ensures in
+    let e = c.endpoint-endpoint.result.now in
+    let same = read_endpoint b x at found e c.endpoint-endpoint.ensures in
     let none = no_entry b x c.entry_place.result c.entry_place.ensures (sym c.if-is_some.ensures) in
     let k = c.index.result.now in
     let there = found_there (is_connection x.conn.0) b.book.connections.items c.in-Some.from k c.in-Some.ensures
@@ -121,7 +107,7 @@ returns-in_err-check_join-clause-refused g c =
     (ap (λ key. first (join_rows key b.book.sessions)) (sym c.session_key-key.ensures)
     ∙ sym c.in_err-check_join.ensures.says))
     (past_format b x (format_says b x at found e same None c.in_ok-format.ensures.says)
-    (past_five b x c.in-Some.from at c.in-Some.ensures c.in_ok-check_later.ensures found none
+    (past_five b x c.in-Some.from at c.in-Some.ensures c.in_ok-runs.ensures c.in_ok-check_later.ensures found none
     c.in_ok-check_arguments.ensures))))
 
 pub returns-clause-planned : goal.returns-clause-planned
@@ -130,8 +116,8 @@ returns-clause-planned g c =
     let x = c.args.x.now in
     let at = c.in_ok-place.place in
     let found = c.in_ok-place.ensures.found in
-    let e = c.index-endpoint.result.now in
-    let same = read_endpoint b x at found e c.index-endpoint.ensures in
+    let e = c.endpoint-endpoint.result.now in
+    let same = read_endpoint b x at found e c.endpoint-endpoint.ensures in
     let none = no_entry b x c.entry_place.result c.entry_place.ensures (sym c.if-is_some.ensures) in
     let k = c.index.result.now in
     let there = found_there (is_connection x.conn.0) b.book.connections.items c.in-Some.from k c.in-Some.ensures
@@ -157,6 +143,6 @@ returns-clause-planned g c =
           (ap (λ key. first (join_rows key b.book.sessions)) (sym c.session_key-key.ensures)
           ∙ sym c.in_ok-check_join.ensures.says))
           (past_format b x (format_says b x at found e same None c.in_ok-format.ensures.says)
-          (past_five b x c.in-Some.from at c.in-Some.ensures c.in_ok-check_later.ensures found none
+          (past_five b x c.in-Some.from at c.in-Some.ensures c.in_ok-runs.ensures c.in_ok-check_later.ensures found none
           c.in_ok-check_arguments.ensures));
     }

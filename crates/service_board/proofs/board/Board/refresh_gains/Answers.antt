@@ -14,7 +14,7 @@ regain-requires-clause-clients g c =
 
 pub returns-clause-order : goal.returns-clause-order
 returns-clause-order g c =
-    fresh_order g.E.EngineSide.state c.args.self.now _ c.requires.order refl refl refl
+    fresh_order g.E.EngineSide.state c.args.self.now _ c.requires.order refl refl refl refl
     (regained_there c.args.self.now c.deref_mut.result.now c.regain.new.entries c.deref_mut.ensures.value
     c.regain.auto.entries c.regain.ensures)
 

@@ -45,7 +45,8 @@ returns-clause-does g c =
       output = refl;
       result-is = refl;
       payload-is = refl;
-      after-is = state_left moves old new book test forgets left rises datas tally old.book.connections.items refl;
+      after-is = state_left moves old new book test forgets left rises datas tally old.book.connections.items
+          old.book.notices.items refl refl;
     })
 
 pub returns-clause-order : goal.returns-clause-order
@@ -54,7 +55,7 @@ returns-clause-order g c =
     order_left g.E.EngineSide.state g.E.EngineSide.moves old c.forget_gone.new.self
     (record (old.book) { clients = c.drop_client.new.clients }) c.requires.order
     (is_client_of c.args.conn.0 c.args.client.0) c.forget_gone.ensures c.drop_client.ensures.left
-    c.drop_client.ensures.room refl c.requires.order.book.apart c.requires.order.book.opens
+    c.drop_client.ensures.room refl refl c.requires.order.book.apart c.requires.order.book.opens
     (All-filter (λ x. not (is_client_of c.args.conn.0 c.args.client.0 x)) (IsOwned old.book.connections.items)
     old.book.clients.items c.requires.order.book.owned)
 

@@ -81,7 +81,15 @@ returns-then-not-empty-clause-does g c =
     look_done g.D.Devices.faults g.D.Devices.told g.E.EngineSide.moves g.met.E.EngineSide.none c.args.self.now _
     c.args.conn.0 c.args.client.0 c.in_ok-at.at c.index_mut.result.now c.empty.new.entry there
     c.requires.order.order
-    (record { devices = refl; book = refl; seats = refl; seat_room = refl; entries = refl; room = refl })
+    (record {
+      devices = refl;
+      book = refl;
+      seats = refl;
+      seat_room = refl;
+      draft_room = refl;
+      entries = refl;
+      room = refl;
+    })
     found.same.client found.steps found.made reset_rows (λ d. is_some d.lease ≡ c.args.has_lease)
     (λ st s. granted [] (of_client c.args.client.0 reset ∷ []) st) hr.S_FALSE
     (λ d agrees knows. row_start (stream_with d c.index_mut.result.now) true
@@ -93,7 +101,16 @@ returns-then-not-empty-clause-order g c =
     let there = opened_there c.args.conn.0 c.args.client.0 c.args.self.now c.in_ok-at.at c.index_mut.result.now
     c.in_ok-at.ensures.found c.index_mut.ensures.value in
     order_kept g.E.EngineSide.state c.args.self.now _ c.in_ok-at.at c.index_mut.result.now c.empty.new.entry there.here
-    (record { devices = refl; book = refl; seats = refl; seat_room = refl; entries = refl; room = refl })
+    (λ k. there.opens)
+    (record {
+      devices = refl;
+      book = refl;
+      seats = refl;
+      seat_room = refl;
+      draft_room = refl;
+      entries = refl;
+      room = refl;
+    })
     c.empty.ensures.empties.same c.empty.ensures.rested c.empty.ensures.back c.requires.order
 
 pub returns-clause-does : goal.returns-clause-does
@@ -108,7 +125,15 @@ returns-clause-does g c =
     move_done g.D.Devices.faults g.D.Devices.told g.E.EngineSide.moves g.met.E.EngineSide.none c.args.self.now _
     c.args.conn.0 c.args.client.0 c.in_ok-at.at c.index_mut.result.now c.empty.new.entry there
     c.requires.order.order
-    (record { devices = refl; book = refl; seats = refl; seat_room = refl; entries = refl; room = refl })
+    (record {
+      devices = refl;
+      book = refl;
+      seats = refl;
+      seat_room = refl;
+      draft_room = refl;
+      entries = refl;
+      room = refl;
+    })
     found.same.client found.steps found.made reset_rows (λ d. is_some d.lease ≡ c.args.has_lease)
     reset
     (λ d agrees knows. row_start (stream_with d c.index_mut.result.now) false
@@ -120,5 +145,14 @@ returns-clause-order g c =
     let there = opened_there c.args.conn.0 c.args.client.0 c.args.self.now c.in_ok-at.at c.index_mut.result.now
     c.in_ok-at.ensures.found c.index_mut.ensures.value in
     order_kept g.E.EngineSide.state c.args.self.now _ c.in_ok-at.at c.index_mut.result.now c.empty.new.entry there.here
-    (record { devices = refl; book = refl; seats = refl; seat_room = refl; entries = refl; room = refl })
+    (λ k. there.opens)
+    (record {
+      devices = refl;
+      book = refl;
+      seats = refl;
+      seat_room = refl;
+      draft_room = refl;
+      entries = refl;
+      room = refl;
+    })
     c.empty.ensures.empties.same c.empty.ensures.rested c.empty.ensures.back c.requires.order

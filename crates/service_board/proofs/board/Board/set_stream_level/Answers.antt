@@ -4,7 +4,7 @@ use Rattle.ca_machine.specs.SharedRows.{stream_rows}
 use Rattle.ca_machine.specs.Streams.{set_stream_level_rows}
 use Rattle.ca_stage.specs.Moves.{stream_at}
 use Rattle.service_board.specs.Does.{AnyData}
-use Rattle.service_board.specs.Lookups.{client_call_rows}
+use Rattle.service_board.specs.Lookups.{client_control_rows}
 use Rattle.service_board.proofs.LookingUp.{says_front}
 use Rattle.service_board.proofs.SettingLevels.{leveled_order, named_there}
 use Rattle.service_board.proofs.StreamLevels.{right_level, set_does, set_refused, sets_level, wrong_level}
@@ -18,7 +18,7 @@ returns-in_err-place-clause-does g c =
     rw (p.1, p.2) (stream_refused g.D.Devices.faults g.D.Devices.told g.E.EngineSide.moves g.met.E.EngineSide.none
     c.args.self.now c.args.conn.0 c.args.client.0 (set_stream_level_rows c.args.channel c.args.level)
     (sets_level c.args.conn.0 c.args.client.0 c.args.channel c.args.level) AnyData c.in_err-place.field-0.0
-    (says_front c.args.self.now (client_call_rows c.args.conn.0 c.args.client.0)
+    (says_front c.args.self.now (client_control_rows c.args.conn.0 c.args.client.0)
     (λ st. stream_rows (stream_at c.args.client.0 st.stage)) c.in_err-place.field-0.0
     c.in_err-place.ensures.refused))
 
@@ -50,7 +50,7 @@ returns-clause-does g c =
     c.if-level-gt-MAX_LEVEL.false)
     c.in_ok-place.place c.index_mut.result.now
     (named_there c.args.self.now c.args.conn.0 c.args.client.0 c.in_ok-place.place c.index_mut.result.now
-    c.in_ok-place.ensures.found c.index_mut.ensures.value)
+    c.in_ok-place.ensures.found.0 c.index_mut.ensures.value)
     c.requires.order.book.clients
 
 pub returns-clause-order : goal.returns-clause-order
@@ -62,5 +62,5 @@ returns-clause-order g c =
     leveled_order g.E.EngineSide.state c.args.self.now c.args.conn.0 c.args.client.0 c.args.channel c.args.level
     c.in_ok-place.place c.index_mut.result.now
     (named_there c.args.self.now c.args.conn.0 c.args.client.0 c.in_ok-place.place c.index_mut.result.now
-    c.in_ok-place.ensures.found c.index_mut.ensures.value)
+    c.in_ok-place.ensures.found.0 c.index_mut.ensures.value)
     (omega (arith, rested.fits.few_channels)) c.if-level-gt-MAX_LEVEL.false c.requires.order

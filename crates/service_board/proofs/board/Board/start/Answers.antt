@@ -5,15 +5,7 @@ use Rattle.ca_stage.specs.Moves.{of_client, started}
 use Rattle.ca_machine.specs.Plan.{granted}
 use Rattle.ca_machine.specs.Streams.{start_rows}
 use Rattle.service_board.specs.Does.{AnyData}
-use Rattle.service_board.proofs.StreamMoves.{
-  move_done,
-  order_kept,
-  rested_at,
-  rested_running,
-  same_read,
-  same_running,
-  with_running,
-}
+use Rattle.service_board.proofs.StreamMoves.{move_done, order_kept, rested_at, rested_running, same_read, same_running, with_running}
 use Rattle.service_board.proofs.StreamRows.{opened_there, own_refused, stream_refused}
 use Rattle.service_board.proofs.board.Board.start.Goals as goal
 
@@ -46,7 +38,15 @@ returns-clause-does g c =
     move_done g.D.Devices.faults g.D.Devices.told g.E.EngineSide.moves g.met.E.EngineSide.none c.args.self.now _
     c.args.conn.0 c.args.client.0 c.in_ok-at.at c.index_mut.result.now (with_running true c.index_mut.result.now) there
     c.requires.order.order
-    (record { devices = refl; book = refl; seats = refl; seat_room = refl; entries = refl; room = refl })
+    (record {
+      devices = refl;
+      book = refl;
+      seats = refl;
+      seat_room = refl;
+      draft_room = refl;
+      entries = refl;
+      room = refl;
+    })
     refl [] (g.met.E.EngineSide.none c.index_mut.result.now.store) start_rows (λ d. Unit {0}) started
     (λ d agrees knows. ap (λ e. if e.running then Some hr.NOT_STOPPED else None) same
     ∙ ap (λ b. if b then Some hr.NOT_STOPPED else None) c.if-index.false)
@@ -58,7 +58,16 @@ returns-clause-order g c =
     c.in_ok-at.ensures.found c.index_mut.ensures.value in
     order_kept g.E.EngineSide.state c.args.self.now _ c.in_ok-at.at c.index_mut.result.now
     (with_running true c.index_mut.result.now) there.here
-    (record { devices = refl; book = refl; seats = refl; seat_room = refl; entries = refl; room = refl })
+    (λ k. there.opens)
+    (record {
+      devices = refl;
+      book = refl;
+      seats = refl;
+      seat_room = refl;
+      draft_room = refl;
+      entries = refl;
+      room = refl;
+    })
     (same_running true c.index_mut.result.now)
     (rested_running g.E.EngineSide.state true c.index_mut.result.now
     (rested_at g.E.EngineSide.state c.args.self.now c.in_ok-at.at c.index_mut.result.now there.here c.requires.order))

@@ -1,7 +1,7 @@
 use Rattle.std.proofs.Common.{not, ap}
 use Rattle.std.proofs.lemmas.Bool.{ne_eqb}
 use Rattle.ca_base.specs.declared.values.TheConstants.{STATE_ACTIVE}
-use Rattle.ca_machine.specs.State.{is_endpoint}
+use Rattle.device_registry.specs.Endpoints.{is_endpoint}
 use Rattle.ca_machine.specs.SharedRows.{is_inactive}
 use Rattle.service_board.proofs.Finding.{none_at}
 use Rattle.service_board.proofs.ValidEndpoints.{active_there, inactive_there}
@@ -10,14 +10,14 @@ use Rattle.service_board.proofs.book.Book.active_endpoint.Goals as goal
 pub returns-in_err-at : goal.returns-in_err-at
 returns-in_err-at c =
     rw c.from_residual.ensures
-    (ap is_inactive (none_at (is_endpoint c.args.e.0) c.args.self.now.endpoints.items c.in_err-at.ensures))
+    (ap is_inactive (none_at (is_endpoint c.args.e.0) c.args.self.now.registry.list c.in_err-at.ensures))
 
-pub returns-then-index-ne-STATE_ACTIVE : goal.returns-then-index-ne-STATE_ACTIVE
-returns-then-index-ne-STATE_ACTIVE c =
-    inactive_there c.args.self.now c.args.e.0 c.in_ok-at.at c.index.result.now c.in_ok-at.ensures c.index.ensures
-    (ap not (ne_eqb c.index.result.now.state STATE_ACTIVE c.if-index-ne-STATE_ACTIVE.true))
+pub returns-then-endpoint-ne-STATE_ACTIVE : goal.returns-then-endpoint-ne-STATE_ACTIVE
+returns-then-endpoint-ne-STATE_ACTIVE c =
+    inactive_there c.args.self.now c.args.e.0 c.in_ok-at.at c.endpoint.result.now c.in_ok-at.ensures c.endpoint.ensures
+    (ap not (ne_eqb c.endpoint.result.now.state STATE_ACTIVE c.if-endpoint-ne-STATE_ACTIVE.true))
 
 pub returns : goal.returns
 returns c =
-    active_there c.args.self.now c.args.e.0 c.in_ok-at.at c.index.result.now c.in_ok-at.ensures c.index.ensures
-    c.if-index-ne-STATE_ACTIVE.false
+    active_there c.args.self.now c.args.e.0 c.in_ok-at.at c.endpoint.result.now c.in_ok-at.ensures c.endpoint.ensures
+    c.if-endpoint-ne-STATE_ACTIVE.false

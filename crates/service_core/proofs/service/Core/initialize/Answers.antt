@@ -11,7 +11,8 @@ use Rattle.service_core.specs.Service.{AnswersPlan, tally_of}
 use Rattle.service_core.proofs.CoreAnswers.{answers_viewed, board_still}
 use Rattle.service_core.proofs.CoreCounts.{goes_still}
 use Rattle.service_core.proofs.CoreSteps.{core_goes}
-use Rattle.service_core.proofs.EventsFall.{Keeps, keeps_event}
+use Rattle.service_core.proofs.EventsFall.{keeps_event}
+use Rattle.service_core.proofs.PlansFall.{Keeps}
 use Rattle.service_core.proofs.NewSides.{given_is_fresh, given_is_new, no_entry_data, sides_initialized}
 use Rattle.service_core.proofs.TallyStays.{tally_of_initialize}
 use Rattle.service_core.proofs.service.Core.initialize.Goals as goal

@@ -1,0 +1,114 @@
+-- Another format of an endpoint: the endpoint that is made of the one that was read, and what is done with it.
+use Rattle.std.proofs.Common.{◌≡◌, ℕ, ◌*◌, not, List, [], get_or, Bool, Option, Some, None, Ok, sym, ap, ◌∙◌, subst}
+use Rattle.std.specs.Global.{Vec}
+use Rattle.std.specs.Vec.{with_item}
+use Rattle.device_io.specs.DeviceLog.{DeviceLog}
+use Rattle.ca_base.specs.declared.codes.TheConstants.Hr as hr
+use Rattle.ca_base.specs.declared.ids.Reason.TheVariants.{Format}
+use Rattle.ca_base.specs.Rows.{first}
+use Rattle.wave_format.specs.declared.format.Format as wave
+use Rattle.wave_format.specs.Format.{IsValid, format_at}
+use Rattle.wave_format.proofs.FormatLaws.{read-valid}
+use Rattle.buffer_ring.specs.declared.step.EndState.{EndState}
+use Rattle.buffer_ring.specs.declared.step.Step.{Step}
+use Rattle.device_registry.specs.declared.endpoint.Endpoint.{Endpoint}
+use Rattle.device_registry.specs.Changes.{with_changed}
+use Rattle.device_registry.specs.Endpoints.{EndpointList, endpoint_at, replaced_by}
+use Rattle.device_registry.specs.Rows.{found_rows}
+use Rattle.ca_machine.specs.Devices.{set_format_plan}
+use Rattle.ca_machine.specs.Periods.{period_frames}
+use Rattle.ca_machine.specs.Streams.{matches}
+use Rattle.period_engine.specs.declared.entry.StreamEntry.{StreamEntry}
+use Rattle.period_engine.specs.declared.sounding.Block.{Block}
+use Rattle.service_board.specs.Closing.{Disconnects}
+use Rattle.service_board.specs.Does.{AnyData, Does}
+use Rattle.service_board.specs.InOrder.{InOrder}
+use Rattle.service_board.specs.NamedEndpoints.{FindsNamed}
+use Rattle.service_board.specs.declared.board.Board.{Board}
+use Rattle.service_board.specs.declared.board.Seat.{Seat}
+use Rattle.service_board.proofs.FormatDoes.{format_does, format_order, loses_is, loses_streams, read_endpoint}
+use Rattle.service_board.proofs.NamedDoes.{named_read}
+
+-- of an endpoint that was read at its place, one with a format that was read is made
+pub record Makes {D E : Type 0} (b : Board D E) (number at : ℕ) (bytes : List ℕ) (list : List Endpoint)
+    (old made : Endpoint) (read : wave.Format) : Type 0
+  where
+    pub found : FindsNamed number b at
+    pub list-is : list ≡ b.book.registry.list
+    pub old-read : old ≡ get_or list at old
+    pub spells : format_at bytes ≡ Ok read
+    pub made-is : made ≡ record old { format = read }
+
+module _ {D E : Type 0} (b : Board D E) (number at : ℕ) (bytes : List ℕ) (list : List Endpoint) (old made : Endpoint)
+    (read : wave.Format) (m : Makes b number at bytes list old made read) where
+  old_is : m.found.endpoint ≡ old
+  old_is = named_read number b at m.found list m.list-is old m.old-read
+
+  made_is : made ≡ read_endpoint b number at bytes m.found read m.spells
+  made_is = m.made-is ∙ ap (λ (e : Endpoint). record e { format = read }) (sym old_is)
+
+  number_is : made.no.0 ≡ number
+  number_is = ap (λ (e : Endpoint). e.no.0) made_is ∙ m.found.number_is
+
+  pub made_valid : IsValid made.format
+  made_valid =
+      subst (λ (e : Endpoint). IsValid e.format) (sym m.made-is) (read-valid bytes read m.spells)
+
+  -- the registry refuses nothing of it
+  pub made_passes : first (found_rows (endpoint_at made.no.0 b.book.registry.list)) ≡ None
+  made_passes =
+      ap (λ n. first (found_rows (endpoint_at n b.book.registry.list))) number_is
+      ∙ ap (λ o. first (found_rows o)) m.found.found
+
+  replaces_by : (registry : EndpointList) →
+      registry ≡ with_changed made.no.0 (replaced_by made) b.book.registry →
+      registry
+      ≡ with_changed number (replaced_by (read_endpoint b number at bytes m.found read m.spells)) b.book.registry
+  replaces_by registry now =
+      now
+      ∙ ap (λ n. with_changed n (replaced_by made) b.book.registry) number_is
+      ∙ ap (λ e. with_changed number (replaced_by e) b.book.registry) made_is
+
+  size_by : (frames samples : ℕ) → frames ≡ period_frames made → samples ≡ frames * read.channels →
+      samples ≡ period_frames (read_endpoint b number at bytes m.found read m.spells) * read.channels
+  size_by frames samples frames_are size =
+      size ∙ ap (λ n. n * read.channels) (frames_are ∙ ap period_frames made_is)
+
+  loses_by : (moves : E → List Step → E → Type 0) (state : E → EndState) (entries : Vec (StreamEntry E))
+      (matched : Bool) → matched ≡ matches old.format read →
+      Disconnects moves state (not matched) Format (Some number) b.entries entries →
+      Disconnects moves state (loses_streams b number at bytes m.found read m.spells) Format (Some number) b.entries
+      entries
+  loses_by moves state entries matched is loses =
+      subst (λ lost. Disconnects moves state lost Format (Some number) b.entries entries)
+      (loses_is b number at bytes m.found read m.spells (not matched)
+      (ap not is ∙ ap (λ (e : Endpoint). not (matches e.format read)) (sym old_is)))
+      loses
+
+  -- the board after it, with the streams closed if they are lost
+  module _ (moves : E → List Step → E → Type 0) (state : E → EndState) (order : InOrder state b)
+      (entries : Vec (StreamEntry E)) (matched : Bool) (matched_is : matched ≡ matches old.format read)
+      (loses : Disconnects moves state (not matched) Format (Some number) b.entries entries) (registry : EndpointList)
+      (now : registry ≡ with_changed made.no.0 (replaced_by made) b.book.registry) (seat : Seat)
+      (seat_read : seat ≡ get_or b.seats.items at seat) (frames : ℕ) (frames_are : frames ≡ period_frames made)
+      (block : Block) (size : block.samples ≡ frames * read.channels)
+    where
+      abbrev made_board : Board D E
+      made_board = record b {
+        book = record (b.book) { registry = registry };
+        seats = with_item b.seats at (record { endpoint = seat.endpoint; next = seat.next; block = block });
+        entries = entries;
+      }
+
+      pub made_does : (faults : D → ℕ) (told : D → Option (List DeviceLog)) →
+          Does faults told moves None AnyData b made_board (λ st. set_format_plan st number bytes) hr.S_OK []
+      made_does =
+          format_does b number at bytes m.found read m.spells moves state order entries
+          (loses_by moves state entries matched matched_is loses) registry (replaces_by registry now) seat seat_read block
+          (size_by frames block.samples frames_are size)
+
+      pub made_order : InOrder state made_board
+      made_order =
+          format_order b number at bytes m.found read m.spells moves state order entries
+          (loses_by moves state entries matched matched_is loses) registry (replaces_by registry now) seat seat_read block
+          (size_by frames block.samples frames_are size)

@@ -1,0 +1,82 @@
+-- What is told of an event, and the board after it.
+use Rattle.std.proofs.Common.{◌≡◌, ◌≤◌, List, [], ◌∷◌, ◌++◌, length, map, refl, sym, ap, ap₂, ◌∙◌, subst}
+use Rattle.std.specs.Global.{Vec}
+use Rattle.std.specs.List.{AllZip}
+use Rattle.std.specs.Vec.{vec_capacity}
+use Rattle.std.proofs.lemmas.List.{length-map}
+use Rattle.std.proofs.lemmas.List.Elements.{All-weaker}
+use Rattle.ca_base.specs.declared.limits.TheConstants.{NOTICES}
+use Rattle.buffer_ring.specs.declared.step.EndState.{EndState}
+use Rattle.event_notices.specs.declared.notice.Notice.{Notice}
+use Rattle.event_notices.specs.Notices.{Notices, pushed_all}
+use Rattle.service_board.specs.InOrder.{Belongs, InOrder}
+use Rattle.service_board.specs.declared.board.Board.{Board}
+
+-- a list in which each is what f makes of the one at its place
+pub mapped_zip : {X : Type 0} (f : X → X) (xs ys : List X) → AllZip (λ a b. b ≡ f a) xs ys → ys ≡ map f xs
+mapped_zip f [] [] h = refl
+mapped_zip {X} f (x ∷ xs) (y ∷ ys) h = ap₂ (λ (z : X) (zs : List X). z ∷ zs) h.0 (mapped_zip f xs ys h.1)
+mapped_zip f [] (y ∷ ys) h = absurd h
+mapped_zip f (x ∷ xs) [] h = absurd h
+
+-- what stands in a list after three were added to none
+pub three_added : {X : Type 0} (xs ys zs none one two three : List X) → none ≡ [] → one ≡ none ++ xs →
+    two ≡ one ++ ys → three ≡ two ++ zs → three ≡ xs ++ ys ++ zs
+three_added xs ys zs none one two three a b c d =
+    d ∙ ap (λ ns. ns ++ zs) (c ∙ ap (λ ns. ns ++ ys) (b ∙ ap (λ ns. ns ++ xs) a))
+
+-- a board with other notices and drafts
+abbrev pub with_told : {D E : Type 0} → Vec Notices → Vec Notice → Board D E → Board D E
+with_told queues drafts b = record b { book = record (b.book) { notices = queues }; drafts = drafts }
+
+-- it stays in order with as many lists of notices, and room for all drafts
+pub drafted_order : {D E : Type 0} (state : E → EndState) (b : Board D E) (queues : Vec Notices)
+    (drafts : Vec Notice) → length queues.items ≡ length b.book.notices.items → NOTICES ≤ vec_capacity drafts →
+    InOrder state b → InOrder state (with_told queues drafts b)
+drafted_order state b queues drafts same room order =
+    let book = order.book in
+    let rooms = book.rooms in
+    record {
+      order = order.order;
+      rested = order.rested;
+      belong =
+          All-weaker (Belongs b.book b.seats.items) (Belongs (record (b.book) { notices = queues }) b.seats.items)
+          (λ e h. record {
+            client = h.client;
+            live = h.live;
+            on = h.on;
+            opens = h.opens;
+            within = h.within;
+            gains = h.gains;
+            renders = h.renders;
+          }) b.entries.items order.belong;
+      seats = order.seats;
+      book = record {
+        rooms = record {
+          connections = rooms.connections;
+          clients = rooms.clients;
+          notices = same ∙ rooms.notices;
+        };
+        apart = book.apart;
+        opens = book.opens;
+        clients = book.clients;
+        few_clients = book.few_clients;
+        made = book.made;
+        clients_made = book.clients_made;
+        endpoints = book.endpoints;
+        added = book.added;
+        levels = book.levels;
+        owned = book.owned;
+      };
+      room = order.room;
+      seat_room = order.seat_room;
+      draft_room = room;
+    }
+
+-- and so it does once it was told
+pub told_order : {D E : Type 0} (state : E → EndState) (b : Board D E) (ns : List Notice) (queues : Vec Notices)
+    (drafts : Vec Notice) → queues.items ≡ map (pushed_all ns) b.book.notices.items →
+    vec_capacity drafts ≡ vec_capacity b.drafts → InOrder state b → InOrder state (with_told queues drafts b)
+told_order state b ns queues drafts told room order =
+    drafted_order state b queues drafts (ap length told ∙ length-map b.book.notices.items (pushed_all ns))
+    (subst (λ n. NOTICES ≤ n) (sym room) order.draft_room) order
