@@ -67,10 +67,10 @@ class Bench(unittest.TestCase):
     def test_disconnects(self):
         for unplugged in (False, True):
             source = bench.disconnects(self.folder / "events", 2, unplugged)
-            states = [["SetState"] * unplugged] * 2
             names = [event.name for event in self.events(source)]
-            one = ["Activate", "Initialize", "Start"] * 64 + states[0] + ["Release"] * 64 + states[1]
-            self.assertEqual(names, ["Add", "Open"] + one * 2 + ["Period"])
+            state = ["SetState"] * unplugged
+            one = ["Open"] + ["Activate", "Initialize", "Start"] * 64 + state + ["Hangup"] + state
+            self.assertEqual(names, ["Add"] + one * 2 + ["Period"])
 
     def test_notices(self):
         for taken in (False, True):

@@ -1,5 +1,5 @@
 -- What a close of streams needs of entries, and what it leaves of them.
-use Rattle.std.proofs.Common.{◌≡◌, ℕ, ◌&&◌, ◌==◌, List, Bool, true, false, Option, Some, refl}
+use Rattle.std.proofs.Common.{◌≡◌, ℕ, ◌&&◌, List, Bool, true, false, Option, Some, refl}
 use Rattle.std.specs.List.{All}
 use Rattle.std.proofs.lemmas.Bool.{true≢false}
 use Rattle.buffer_ring.specs.declared.step.EndState.{EndState}

@@ -1,5 +1,5 @@
 -- What a close of streams within a scope is on a board: the closes of the machine.
-use Rattle.std.proofs.Common.{◌≡◌, ℕ, ◌&&◌, List, [], ◌∷◌, map, Bool, true, false, Option, None, refl, sym, ap}
+use Rattle.std.proofs.Common.{◌≡◌, ℕ, List, [], map, Bool, true, false, Option, None, refl, sym, ap}
 use Rattle.std.proofs.Common.{◌∙◌, filter, subst}
 use Rattle.std.specs.Global.{Vec}
 use Rattle.std.proofs.lemmas.Bool.{and_parts}

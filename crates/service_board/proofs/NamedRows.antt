@@ -1,5 +1,5 @@
 -- The rows of an event that names an endpoint.
-use Rattle.std.proofs.Common.{◌≡◌, ℕ, List, [], ◌∷◌, ◌++◌, Option, Some, None, is_none, ap, ◌∙◌, eqb-true}
+use Rattle.std.proofs.Common.{◌≡◌, ℕ, List, [], ◌∷◌, ◌++◌, Option, Some, None, is_none, ap, eqb-true}
 use Rattle.std.proofs.Common.{not, if◌then◌else◌}
 use Rattle.std.specs.List.{position}
 use Rattle.ca_base.specs.declared.codes.Hr.{Hr}

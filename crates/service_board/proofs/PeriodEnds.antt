@@ -1,7 +1,7 @@
 -- The board after a period, whose device took all or failed.
 use Rattle.std.proofs.Common.{◌≡◌, ℕ, ◌+◌, ◌*◌, ◌≤◌, List, [], ◌∷◌, ◌++◌, length, map, Bool, true, false, Option}
 use Rattle.std.proofs.Common.{None}
-use Rattle.std.proofs.Common.{refl, sym, ap, ap₂, ◌∙◌, subst, arith, get_or, if◌then◌else◌, slice_set}
+use Rattle.std.proofs.Common.{refl, sym, ap, ap₂, ◌∙◌, subst, arith, get_or, slice_set}
 use Rattle.std.specs.Int.{w32, to_le_bytes}
 use Rattle.std.specs.List.{All, AllZip}
 use Rattle.std.specs.Vec.{with_item, with_items}
@@ -24,6 +24,7 @@ use Rattle.ca_machine.specs.State.{empty_state}
 use Rattle.device_registry.specs.Endpoints.{EndpointList, with_state}
 use Rattle.device_registry.specs.Changes.{with_changed}
 use Rattle.ca_machine.specs.Periods.{mixing_of, period_frames, period_plan, with_failed}
+use Rattle.step_notices.specs.Notes.{Notes}
 use Rattle.period_engine.specs.declared.entry.StreamEntry.{StreamEntry}
 use Rattle.period_engine.specs.declared.sounding.Block.{Block}
 use Rattle.period_engine.specs.Entries.{IsRested}
@@ -123,12 +124,10 @@ module _ {D E : Type 0} (faults : D → ℕ) (told : D → Option (List DeviceLo
         (rested : All (IsRested state) ws)
       where
         abbrev pub whole_board : Board D E
-        whole_board = record {
+        whole_board = record b {
           devices = devices;
-          book = b.book;
           seats = with_item b.seats at (record { endpoint = s.endpoint; next = s.next + frames; block = block });
           entries = with_items b.entries ws;
-          drafts = b.drafts;
         }
 
         abbrev plays_whole : Plays moves here.no.0 (period_frames here) (end_gains here.format.channels) true
@@ -173,21 +172,22 @@ module _ {D E : Type 0} (faults : D → ℕ) (told : D → Option (List DeviceLo
             due.active.here order.seats)
             order.book order.room order.seat_room order.draft_room
 
-    -- the device failed
+    -- the device failed, and this was noted before it
     module _ (devices : D) (xs ws : List (StreamEntry E)) (e : Endpoint) (frames : ℕ) (s : Seat) (block : Block)
         (read : Read xs ws e frames s block)
         (plays : Plays moves number frames (end_gains e.format.channels) false xs ws (faults b.devices) (told b.devices)
         (faults devices) (told devices))
         (rested : All (IsRested state) ws) (registry : EndpointList)
         (is : registry ≡ with_changed number (with_state STATE_NOTPRESENT) b.book.registry)
+        (notes : Notes)
       where
         abbrev pub failed_board : Board D E
-        failed_board = record {
+        failed_board = record b {
           devices = devices;
           book = record b.book { registry = registry };
           seats = with_item b.seats at (record { endpoint = s.endpoint; next = s.next; block = block });
           entries = with_items b.entries ws;
-          drafts = b.drafts;
+          failed = notes;
         }
 
         abbrev plays_failed : Plays moves here.no.0 (period_frames here) (end_gains here.format.channels) false

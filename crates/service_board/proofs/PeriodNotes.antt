@@ -1,5 +1,5 @@
 -- What a period notes, if its device failed: what there was of the service before the period.
-use Rattle.std.proofs.Common.{◌≡◌, ℕ, List, [], ◌∷◌, map, Bool, Option, Some, Result, refl, ap, ap₂, ◌∙◌}
+use Rattle.std.proofs.Common.{◌≡◌, ℕ, List, [], ◌∷◌, map, Bool, Option, Result, refl, ap, ap₂, ◌∙◌}
 use Rattle.std.proofs.Common.{if◌then◌else◌}
 use Rattle.std.specs.List.{AllZip}
 use Rattle.device_io.specs.DeviceLog.{DeviceLog}
@@ -75,7 +75,8 @@ module _ {E : Type 0} (moves : E → List Step → E → Type 0) where
 
 -- what is noted of a board is noted of one with other gains
 pub same_notes : {D E : Type 0} (old mid : Board D E) → HasSameStreams old mid → (result : Result Payload Hr)
-    (was now : Option Notes) → NotesFailure result was now mid → NotesFailure result was now old
-same_notes old mid same result was now notes datas tally =
+    (now : Notes) → NotesFailure result mid.failed now mid → NotesFailure result old.failed now old
+same_notes old mid same result now notes datas tally =
     notes datas tally
-    ∙ ap (λ st. if has_failed result then Some (noted st) else was) (same_state old mid same datas tally)
+    ∙ ap₂ (λ st was. if has_failed result then noted st else was) (same_state old mid same datas tally)
+    (ap (λ b. b.failed) same.same)

@@ -2,7 +2,7 @@
 use Rattle.std.proofs.Common.{◌≡◌, ℕ, ◌||◌, not, List, [], ◌∷◌}
 use Rattle.std.proofs.Common.{◌++◌, length, Bool, true, false, Option, Some, None}
 use Rattle.std.proofs.Common.{refl, sym, ap, ◌∙◌, if◌then◌else◌, is_some, get_or}
-use Rattle.std.proofs.Common.{◌<◌, ◌≤◌, ◌⊎◌}
+use Rattle.std.proofs.Common.{◌<◌}
 use Rattle.std.specs.Option.{option_map_or}
 use Rattle.std.specs.List.{find, list_any, position}
 use Rattle.std.proofs.lemmas.Option.{get_or_from_slice_get, none-some}

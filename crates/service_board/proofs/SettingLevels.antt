@@ -2,7 +2,7 @@
 use Rattle.std.proofs.Common.{◌≡◌, ℕ, suc, zero, ◌<◌, ◌≤◌, ◌==◌, ◌&&◌, List, [], ◌∷◌, map, set, get_or, Bool, true}
 use Rattle.std.proofs.Common.{false, Some, refl, sym, ap, ap₂, subst, ◌∙◌, if◌then◌else◌, arith, eq-eqb}
 use Rattle.std.specs.Option.{option_map}
-use Rattle.std.specs.List.{All, find, slice_get}
+use Rattle.std.specs.List.{find, slice_get}
 use Rattle.std.specs.Vec.{with_item}
 use Rattle.std.proofs.Math.Seq.{map-set_same}
 use Rattle.std.proofs.lemmas.Bool.{ne_eqb, true≢false}

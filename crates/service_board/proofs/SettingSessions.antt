@@ -1,5 +1,5 @@
 -- A call that changes a session: what it answers, and what it leaves.
-use Rattle.std.proofs.Common.{◌≡◌, ℕ, List, [], Option, Some, None, Ok, Err, refl, sym, ap, subst}
+use Rattle.std.proofs.Common.{ℕ, List, [], Option, Some, None, Ok, Err, refl, sym, ap, subst}
 use Rattle.device_io.specs.DeviceLog.{DeviceLog}
 use Rattle.ca_base.specs.declared.codes.Hr.{Hr}
 use Rattle.ca_base.specs.declared.codes.TheConstants.Hr as hr

@@ -1,6 +1,6 @@
 -- What is noted of a board, and the notices that it tells (this project's own).
 use Rattle.std.specs.Prelude.{◌≡◌, ℕ, ◌*◌, ◌^◌, ◌+◌, ◌==◌, List, [], ◌∷◌, ◌++◌, map, Bool, false, if◌then◌else◌}
-use Rattle.std.specs.Prelude.{Option, Some, Result, Ok, Err}
+use Rattle.std.specs.Prelude.{Result, Ok, Err}
 use Rattle.ca_base.specs.declared.codes.Hr.{Hr}
 use Rattle.ca_base.specs.declared.ids.Guid.{Guid}
 use Rattle.ca_model.specs.declared.event.Event.{Event}
@@ -63,9 +63,9 @@ has_failed (Err code) = false
 
 -- a period of a board, with this answer, notes what there was of the service before it, if its device failed; in every
 -- other case what was noted stays as it was
-abbrev pub NotesFailure : {D E : Type 0} → Result Payload Hr → Option Notes → Option Notes → Board D E → Type 0
+abbrev pub NotesFailure : {D E : Type 0} → Result Payload Hr → Notes → Notes → Board D E → Type 0
 NotesFailure result was now b = (datas : ℕ → BufferData) (tally : Tally) →
-    now ≡ (if has_failed result then Some (noted (state_of datas tally b)) else was)
+    now ≡ (if has_failed result then noted (state_of datas tally b) else was)
 
 -- ---- what is told
 

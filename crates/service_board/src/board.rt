@@ -10,6 +10,7 @@ use ca_base::{EndpointNo, NoMemory};
 use event_notices::Notice;
 use period_engine::{Block, StreamEntry};
 use std::alloc::Global;
+use step_notices::Noted;
 
 /// What the engine keeps of an endpoint: the place of the next frame that it plays, and scratch for its periods.
 #[derive(Drop)]
@@ -20,7 +21,7 @@ pub struct Seat {
 }
 
 /// The devices, the book, a seat for each endpoint in the book's order, the engine's end of each stream in the order of
-/// the clients' numbers, and scratch for notices.
+/// the clients' numbers, and scratch for what is told.
 #[derive(Drop)]
 pub struct Board<D, E> {
     pub devices: D,
@@ -29,6 +30,9 @@ pub struct Board<D, E> {
     pub entries: Vec<StreamEntry<E>>,
     /// The notices of a step, or those that a connection takes, while they are told.
     pub drafts: Vec<Notice>,
+    /// What there was of the service before the last period whose device failed, while it is told. It stands here, and
+    /// not on the stack, so that a period that is played needn't make room for it.
+    pub failed: Noted,
 }
 
 impl<D, E: EngineSide> Board<D, E> {
@@ -56,6 +60,7 @@ impl<D, E: EngineSide> Board<D, E> {
             seats,
             entries,
             drafts,
+            failed: Noted::new(),
         })
     }
 }

@@ -19,7 +19,6 @@ use device_io::Devices;
 use device_registry::Endpoint;
 use period_engine::{StreamEntry, retire};
 use reply_payload::Payload;
-use step_notices::Noted;
 use wave_format::frames_of;
 
 /// The gain of each channel of an endpoint: none changes anything.
@@ -57,29 +56,29 @@ impl<D: Devices, E: EngineSide> Board<D, E> {
     }
 
     /// A period of an endpoint: what is due of its streams is played, with the gains of their levels. If the device
-    /// fails, its streams are closed, and the endpoint is NOTPRESENT; then, and only then, `before` is what there was of
+    /// fails, its streams are closed, and the endpoint is NOTPRESENT; then, and only then, it is noted what there was of
     /// the service before the period.
-    pub fn period(&mut self, e: EndpointNo, before: &mut Option<Noted>) -> Result<Payload, Hr>
+    pub fn period(&mut self, e: EndpointNo) -> Result<Payload, Hr>
         requires order { InOrder E.state self.old }
         ensures does { Does D.faults D.told E.moves None AnyData self.old self.new
             (λ st. period_plan st e.0) (code_of result) (payload_of result) }
         ensures order { InOrder E.state self.new }
         ensures plays { IfOk result IsPeriod }
-        ensures notes { NotesFailure result before.old before.new self.old }
+        ensures notes { NotesFailure result self.old.failed self.new.failed self.old }
     {
         self.refresh_gains();
-        self.play_due(e, before)
+        self.play_due(e)
     }
 
     /// The same, with gains that are those of the levels.
-    fn play_due(&mut self, e: EndpointNo, before: &mut Option<Noted>) -> Result<Payload, Hr>
+    fn play_due(&mut self, e: EndpointNo) -> Result<Payload, Hr>
         requires order { InOrder E.state self.old }
         requires fresh { self.old.book.levels_changed ≡ false }
         ensures does { Does D.faults D.told E.moves None AnyData self.old self.new
             (λ st. period_plan st e.0) (code_of result) (payload_of result) }
         ensures order { InOrder E.state self.new }
         ensures plays { IfOk result IsPeriod }
-        ensures notes { NotesFailure result before.old before.new self.old }
+        ensures notes { NotesFailure result self.old.failed self.new.failed self.old }
     {
         let at = self.due(e)?;
         let endpoint = self.book.endpoint(at);
@@ -97,7 +96,7 @@ impl<D: Devices, E: EngineSide> Board<D, E> {
                 })
             }
             Err(Failed) => {
-                close_failed(entries, e, &self.book, before);
+                close_failed(entries, e, &self.book, &mut self.failed);
                 let Ok(()) = self.book.registry.set_state(e, STATE_NOTPRESENT) else {
                     unreachable!();
                 };

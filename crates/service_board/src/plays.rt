@@ -50,14 +50,14 @@ pub fn close_failed<E: EngineSide>(
     all: &mut [StreamEntry<E>],
     e: EndpointNo,
     book: &Book,
-    before: &mut Option<Noted>,
+    before: &mut Noted,
 )
     requires few { length all.old ≤ CLIENTS }
     requires closable { All (IsClosable E.state (Some e.0)) all.old }
-    ensures notes { before.new ≡ Some (noted_with book.now all.old) }
+    ensures notes { before.new ≡ noted_with book.now all.old }
     ensures turned { AllZip (Turned E.moves (closes_within Removal (Some e.0))) all.old all.new }
     ensures rested { All (IsRested E.state) all.new }
 {
-    *before = Some(book.noted(all));
+    *before = book.noted(all);
     close_all(all, Some(e), Reason::Removal);
 }

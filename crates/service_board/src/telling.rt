@@ -2,6 +2,7 @@
 
 ghost use Rattle.std.specs.Prelude.{◌≡◌, ℕ, ◌+◌, ◌≤◌, ◌++◌, length, map, option_to_list};
 ghost use Rattle.std.specs.Vec.{vec_capacity};
+ghost use Rattle.ca_base.specs.declared.limits.TheConstants.{NOTICES};
 ghost use Rattle.event_notices.specs.declared.kinds.TheConstants.{DEVICE_PROPERTY};
 ghost use Rattle.step_notices.specs.Changes.{note};
 ghost use Rattle.ca_stage.specs.Stage.{BufferData};
@@ -69,6 +70,18 @@ fn property_note(e: EndpointNo, property: u64) -> Notice
     }
 }
 
+/// Puts what is told of an event in place of what stood in `out`, by what was noted before the event and after it.
+fn put_step(before: &Noted, ev: &Event, after: &Noted, out: &mut Vec<Notice>)
+    requires { NOTICES ≤ vec_capacity out.old }
+    ensures items { out.new.items ≡ step_notices before.now ev.now after.now }
+    ensures room { vec_capacity out.new ≡ vec_capacity out.old }
+{
+    out.clear();
+    put_device_notices(before, after, out);
+    put_property(ev, out);
+    put_session_notices(before, after, out);
+}
+
 /// A session's level and mute in one number.
 fn volume_of(s: &Session) -> u64
     ensures { result ≡ volume_of s.now }
@@ -132,10 +145,25 @@ impl<D, E: EngineSide> Board<D, E> {
         ensures order { InOrder E.state self.new }
     {
         let after = self.noted();
-        self.drafts.clear();
-        put_device_notices(before, &after, &mut self.drafts);
-        put_property(ev, &mut self.drafts);
-        put_session_notices(before, &after, &mut self.drafts);
+        put_step(before, ev, &after, &mut self.drafts);
+        self.push_drafts();
+    }
+
+    /// Tells a period whose device failed, by what was noted before it: every connection keeps what it registered for. It
+    /// takes no memory.
+    pub fn tell_failed(&mut self, ev: &Event)
+        requires order { InOrder E.state self.old }
+        ensures told { self.new ≡ record self.old {
+          book = record (self.old.book) { notices = self.new.book.notices };
+          drafts = self.new.drafts;
+        } }
+        ensures notices { (datas : ℕ → BufferData) (tally : Tally) → self.new.book.notices.items
+            ≡ map (pushed_all (step_notices self.old.failed ev.now (noted (state_of datas tally self.old))))
+            self.old.book.notices.items }
+        ensures order { InOrder E.state self.new }
+    {
+        let after = self.noted();
+        put_step(&self.failed, ev, &after, &mut self.drafts);
         self.push_drafts();
     }
 

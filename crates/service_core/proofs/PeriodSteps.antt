@@ -24,7 +24,7 @@ use Rattle.reply_payload.specs.declared.payload.Payload.{Payload}
 use Rattle.reply_payload.specs.declared.payload.Payload.TheVariants as payload
 use Rattle.service_board.specs.Telling.{has_failed, step_notices}
 use Rattle.service_core.specs.Service.{AnswersPlan, AnswersStep}
-use Rattle.service_core.specs.Telling.{after_noting, call_telling, telling_of}
+use Rattle.service_core.specs.Telling.{after_telling, call_telling, telling_of}
 use Rattle.service_core.specs.declared.telling.Telling.TheVariants as telling
 use Rattle.service_core.proofs.ComparedSteps.{made_by_notes}
 use Rattle.service_core.proofs.TallyOutcomes.{last_byte, some_bytes}
@@ -99,12 +99,13 @@ module _ (st : State) (given : List Answer) where
 -- ---- its step
 
 module _ {D : Type 0} (faults : D → ℕ) (told_by : D → Option (List DeviceLog)) (e : EndpointNo)
-    (old mid : MachineView D) where
+    (old mid : MachineView D) (was : Notes) where
   -- a period that was played, or whose device failed
   played_step : (frames : ℕ) (failed : Bool) →
       AnswersPlan faults told_by (λ st. period_plan st e.0) hr.S_OK (answer_bytes frames failed) old mid →
       AnswersStep faults told_by (event.Period e) hr.S_OK (answer_bytes frames failed) old
-      (after_noting (if failed then Some (noted old.state) else None) (event.Period e) mid)
+      (after_telling failed (step_notices (if failed then noted old.state else was) (event.Period e) (noted mid.state))
+      mid)
   played_step frames true got =
       told_by_notices faults told_by (event.Period e) hr.S_OK (answer_bytes frames true) old mid got
       (step_notices (noted old.state) (event.Period e) (noted mid.state))
@@ -123,7 +124,8 @@ module _ {D : Type 0} (faults : D → ℕ) (told_by : D → Option (List DeviceL
   answered_step : (answer : Result Payload Hr) → IfOk answer IsPeriod →
       AnswersPlan faults told_by (λ st. period_plan st e.0) (code_of answer) (payload_of answer) old mid →
       AnswersStep faults told_by (event.Period e) (code_of answer) (payload_of answer) old
-      (after_noting (if has_failed answer then Some (noted old.state) else None) (event.Period e) mid)
+      (after_telling (has_failed answer)
+      (step_notices (if has_failed answer then noted old.state else was) (event.Period e) (noted mid.state)) mid)
   answered_step (Err code) plays got = refused_step code got
   answered_step (Ok (payload.Period frames failed)) plays got = played_step frames failed got
   answered_step (Ok payload.Nothing) plays got = absurd plays
@@ -134,11 +136,12 @@ module _ {D : Type 0} (faults : D → ℕ) (told_by : D → Option (List DeviceL
   answered_step (Ok (payload.Closest f)) plays got = absurd plays
 
   -- by what was noted before it, if its device failed
-  pub period_step : (answer : Result Payload Hr) (before : Option Notes) → IfOk answer IsPeriod →
-      before ≡ (if has_failed answer then Some (noted old.state) else None) →
+  pub period_step : (answer : Result Payload Hr) (before : Notes) → IfOk answer IsPeriod →
+      before ≡ (if has_failed answer then noted old.state else was) →
       AnswersPlan faults told_by (λ st. period_plan st e.0) (code_of answer) (payload_of answer) old mid →
       AnswersStep faults told_by (event.Period e) (code_of answer) (payload_of answer) old
-      (after_noting before (event.Period e) mid)
+      (after_telling (has_failed answer) (step_notices before (event.Period e) (noted mid.state)) mid)
   period_step answer before plays is got =
       subst (λ o. AnswersStep faults told_by (event.Period e) (code_of answer) (payload_of answer) old
-      (after_noting o (event.Period e) mid)) (sym is) (answered_step answer plays got)
+      (after_telling (has_failed answer) (step_notices o (event.Period e) (noted mid.state)) mid)) (sym is)
+      (answered_step answer plays got)

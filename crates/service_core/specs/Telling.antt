@@ -1,15 +1,13 @@
 -- How events are told: every connection keeps the notices that it registered for (this project's own).
-use Rattle.std.specs.Prelude.{List, Bool, true, false, Option, Some, None}
+use Rattle.std.specs.Prelude.{List, Bool, true, false}
 use Rattle.ca_model.specs.declared.event.Call.{Call}
 use Rattle.ca_model.specs.declared.event.Call.TheVariants as call
 use Rattle.ca_model.specs.declared.event.Event.{Event}
 use Rattle.ca_model.specs.declared.event.Event.TheVariants as event
 use Rattle.event_notices.specs.declared.notice.Notice.{Notice}
-use Rattle.step_notices.specs.Notes.{Notes}
 use Rattle.ca_machine.specs.State.{State}
-use Rattle.ca_machine.specs.Notices.{noted, with_notices}
+use Rattle.ca_machine.specs.Notices.{with_notices}
 use Rattle.ca_machine.specs.View.{MachineView}
-use Rattle.service_board.specs.Telling.{step_notices}
 use Rattle.service_core.specs.declared.telling.Telling.{Telling}
 use Rattle.service_core.specs.declared.telling.Telling.TheVariants as telling
 
@@ -48,8 +46,3 @@ after_told true ns st = with_notices ns st
 
 abbrev pub after_telling : {D : Type 0} → Bool → List Notice → MachineView D → MachineView D
 after_telling telling ns v = record v { state = after_told telling ns v.state }
-
--- the same, by what was noted before the event, if it was
-abbrev pub after_noting : {D : Type 0} → Option Notes → Event → MachineView D → MachineView D
-after_noting None e v = v
-after_noting (Some before) e v = after_telling true (step_notices before e (noted v.state)) v

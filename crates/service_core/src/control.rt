@@ -1,33 +1,27 @@
 //! Events on a service.
 
-ghost use Rattle.std.specs.Prelude.{◌≡◌, IfOk, Some, if◌then◌else◌};
 ghost use Rattle.ca_machine.specs.Clients.{hangup_plan, open_plan, release_plan};
 ghost use Rattle.ca_machine.specs.Data.{get_buffer_plan, get_current_padding_plan, release_buffer_plan};
 ghost use Rattle.ca_machine.specs.Devices.{shutdown_plan};
-ghost use Rattle.ca_machine.specs.Notices.{noted};
-ghost use Rattle.ca_machine.specs.Periods.{period_plan};
 ghost use Rattle.ca_machine.specs.Step.{call_plan, device_plan};
 ghost use Rattle.ca_machine.specs.Streams.{reset_plan};
-ghost use Rattle.reply_payload.specs.Answers.{IsPeriod, code_of, payload_of};
+ghost use Rattle.reply_payload.specs.Answers.{code_of, payload_of};
 ghost use Rattle.service_board.specs.Calls.{IsPlainCall, IsShortCall};
 ghost use Rattle.service_board.specs.Openings.{opening_plan};
-ghost use Rattle.service_board.specs.Telling.{has_failed};
 ghost use Rattle.service_core.specs.Service.{AnswersPlan};
 
 use crate::Core;
 use crate::counting::{
-    counted_device, counted_hangup, counted_period, counted_release, counted_reset,
-    counted_shutdown,
+    counted_device, counted_hangup, counted_release, counted_reset, counted_shutdown,
 };
 use crate::data::{get_buffer, get_current_padding, release_buffer};
 use crate::new_ends::new_ends;
 use buffer_ring::FrameStore;
-use ca_base::{ClientNo, ConnNo, EndpointNo, Hr, Text};
+use ca_base::{ClientNo, ConnNo, Hr, Text};
 use ca_model::{Call, DeviceEvent};
 use device_io::Devices;
 use reply_payload::Payload;
 use service_board::Opening;
-use step_notices::Noted;
 
 impl<D: Devices, F: FrameStore> Core<D, F> {
     /// A connection opens.
@@ -157,23 +151,6 @@ impl<D: Devices, F: FrameStore> Core<D, F> {
             }),
             _ => self.plain_call(conn, call),
         }
-    }
-
-    /// A period of an endpoint. If its device failed, and only then, `before` has what was noted of the service before it.
-    pub(crate) fn period(
-        &mut self,
-        e: EndpointNo,
-        before: &mut Option<Noted>,
-    ) -> Result<Payload, Hr>
-        ensures answers { AnswersPlan D.faults D.told (λ st. period_plan st e.0)
-            (code_of result) (payload_of result) self.old self.new }
-        ensures plays { IfOk result IsPeriod }
-        ensures notes { before.new
-            ≡ (if has_failed result then Some (noted self.old.state) else before.old) }
-    {
-        let (answer, taken) = counted_period(&mut self.board, e, before);
-        self.tally.take(&answer, taken);
-        answer
     }
 
     /// A device event: streams that lose their device are closed.

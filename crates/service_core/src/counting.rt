@@ -25,7 +25,6 @@ use device_io::Devices;
 use reply_payload::Payload;
 use service_board::Board;
 use std::alloc::Global;
-use step_notices::Noted;
 
 /// Whether a client has leased frames.
 fn has_lease<D, F: FrameStore>(board: &Board<D, BothEnds<F>>, client: ClientNo) -> bool
@@ -131,21 +130,20 @@ pub fn counted_shutdown<D: Devices, F: FrameStore>(
 }
 
 /// A period of an endpoint; and how many frames it took: they were rendered, or dropped if the device failed. Then, and
-/// only then, `before` has what was noted of the service before it.
+/// only then, it is noted what there was of the service before it.
 pub fn counted_period<D: Devices, F: FrameStore>(
     board: &mut Board<D, BothEnds<F>>,
     e: EndpointNo,
-    before: &mut Option<Noted>,
 ) -> (Result<Payload, Hr>, u64)
     requires { IsCore F.state F.kept board.old }
     ensures goes { (tally : Tally) → HasCounts tally → GoesTo D.faults D.told F.kept
         (λ st. period_plan st e.0) (code_of result.0) (payload_of result.0) tally
         (after_taking result.0 result.1 tally) board.old board.new }
     ensures plays { IfOk result.0 IsPeriod }
-    ensures notes { NotesFailure result.0 before.old before.new board.old }
+    ensures notes { NotesFailure result.0 board.old.failed board.new.failed board.old }
     ensures core { IsCore F.state F.kept board.new }
 {
-    let pads = pending(board, Streams::Open);
-    let answer = board.period(e, before);
-    (answer, fewer_than(pads, board))
+    let before = pending(board, Streams::Open);
+    let answer = board.period(e);
+    (answer, fewer_than(before, board))
 }

@@ -46,6 +46,7 @@ fn begin(ev: &Event, out: &mut Reply)
 }
 
 /// Puts what an event is answered into a payload, and answers its code.
+#[inline(always)]
 pub fn put(answer: Result<Payload, Hr>, payload: &mut Bytes) -> Hr
     requires empty { payload.old.list ≡ [] }
     requires room { REPLY_ROOM ≤ payload.old.capacity }
@@ -87,6 +88,7 @@ impl<D: Devices, F: FrameStore> Core<D, F> {
     }
 
     /// Answers a call: its code, and its payload.
+    #[inline(always)]
     pub(crate) fn answer_call(&mut self, conn: ConnNo, call: &Call, payload: &mut Bytes) -> Hr
         requires empty { payload.old.list ≡ [] }
         requires room { REPLY_ROOM ≤ payload.old.capacity }
@@ -116,6 +118,7 @@ impl<D: Devices, F: FrameStore> Core<D, F> {
     }
 
     /// Answers an event that is no period: its code, and its payload.
+    #[inline(always)]
     pub(crate) fn answer(&mut self, ev: &Event, payload: &mut Bytes) -> Hr
         requires other { IsNoPeriod ev.now }
         requires empty { payload.old.list ≡ [] }

@@ -64,6 +64,7 @@ impl<D: Devices, F: FrameStore> Core<D, F> {
             seats: _,
             entries: _,
             drafts: _,
+            failed: _,
         } = board;
         devices
     }

@@ -8,8 +8,9 @@ ghost use Rattle.service_core.specs.Telling.{telling_of};
 ghost use Rattle.service_core.specs.declared.telling.Telling.TheVariants as telling;
 
 use crate::Core;
+use crate::counting::counted_period;
 use crate::desk::put;
-use crate::telling::{Telling, telling_of};
+use crate::telling::{Telling, has_failed, tell_failure, telling_of};
 use buffer_ring::FrameStore;
 use ca_base::{Bytes, EndpointNo, Hr, SessionNo};
 use ca_model::Event;
@@ -25,6 +26,7 @@ fn is_granted(code: Hr) -> bool
 
 impl<D: Devices, F: FrameStore> Core<D, F> {
     /// Answers an event that is told by what is noted before it and after it, and tells it if it was granted.
+    #[inline(never)]
     fn step_compared(&mut self, ev: &Event, payload: &mut Bytes) -> Hr
         requires compared { telling_of ev.now ≡ telling.Compared }
         requires empty { payload.old.list ≡ [] }
@@ -40,6 +42,7 @@ impl<D: Devices, F: FrameStore> Core<D, F> {
     }
 
     /// Answers a call that sets a session, and tells it if it was granted: nothing else that is noted changes.
+    #[inline(never)]
     fn step_setting(&mut self, ev: &Event, session: SessionNo, payload: &mut Bytes) -> Hr
         requires sets { telling_of ev.now ≡ telling.Setting session }
         requires empty { payload.old.list ≡ [] }
@@ -68,10 +71,10 @@ impl<D: Devices, F: FrameStore> Core<D, F> {
         ensures within { length payload.new.list ≤ REPLY_ROOM }
         ensures keeps { payload.old.capacity ≤ payload.new.capacity }
     {
-        let mut before = None;
-        let code = put(self.period(e, &mut before), payload);
-        self.tell_noted(&before, ev);
-        code
+        let (answer, taken) = counted_period(&mut self.board, e);
+        self.tally.take(&answer, taken);
+        tell_failure(&mut self.board, has_failed(&answer), ev);
+        put(answer, payload)
     }
 
     /// Answers an event: its code, and its payload; and tells it to the connections that registered for its notices.

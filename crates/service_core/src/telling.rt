@@ -1,15 +1,19 @@
 //! How events are told, and what is told of them.
 
-ghost use Rattle.std.specs.Prelude.{◌≡◌};
+ghost use Rattle.std.specs.Prelude.{◌≡◌, true};
 ghost use Rattle.ca_machine.specs.Notices.{noted};
-ghost use Rattle.service_board.specs.Telling.{setting_notices_by, step_notices};
-ghost use Rattle.service_core.specs.Telling.{after_noting, after_telling, call_telling, telling_of};
+ghost use Rattle.service_board.specs.Telling.{has_failed, setting_notices_by, step_notices};
+ghost use Rattle.service_core.specs.Service.{IsCore, core_view};
+ghost use Rattle.service_core.specs.Telling.{after_telling, call_telling, telling_of};
+ghost use Rattle.service_core.specs.declared.tally.Tally.{Tally as Counts};
 
-use crate::Core;
+use crate::{BothEnds, Core};
 use buffer_ring::FrameStore;
-use ca_base::{EndpointNo, SessionNo};
+use ca_base::{EndpointNo, Hr, SessionNo};
 use ca_model::{Call, Event};
 use device_io::Devices;
+use reply_payload::Payload;
+use service_board::Board;
 use step_notices::Noted;
 
 /// How an event is told.
@@ -54,6 +58,49 @@ pub fn telling_of(ev: &Event) -> Telling
     }
 }
 
+/// Whether a period's answer says that its device failed.
+pub fn has_failed(answer: &Result<Payload, Hr>) -> bool
+    ensures { result ≡ has_failed answer.now }
+{
+    match answer {
+        Ok(payload) => payload.is_failure(),
+        Err(_) => false,
+    }
+}
+
+/// Tells a period whose device failed, by what the board has noted before it. What is noted after it stands on this
+/// function's stack alone.
+#[cold]
+#[inline(never)]
+fn tell_failed<D: Devices, F: FrameStore>(board: &mut Board<D, BothEnds<F>>, ev: &Event)
+    requires { IsCore F.state F.kept board.old }
+    ensures core { IsCore F.state F.kept board.new }
+    ensures told { (counts : Counts) → core_view F.kept board.new counts
+        ≡ after_telling true
+        (step_notices board.old.failed ev.now (noted (core_view F.kept board.old counts).state))
+        (core_view F.kept board.old counts) }
+{
+    board.tell_failed(ev);
+}
+
+/// Tells a period, if its device failed.
+pub fn tell_failure<D: Devices, F: FrameStore>(
+    board: &mut Board<D, BothEnds<F>>,
+    failed: bool,
+    ev: &Event,
+)
+    requires { IsCore F.state F.kept board.old }
+    ensures core { IsCore F.state F.kept board.new }
+    ensures told { (counts : Counts) → core_view F.kept board.new counts
+        ≡ after_telling failed
+        (step_notices board.old.failed ev.now (noted (core_view F.kept board.old counts).state))
+        (core_view F.kept board.old counts) }
+{
+    if failed {
+        tell_failed(board, ev);
+    }
+}
+
 impl<D: Devices, F: FrameStore> Core<D, F> {
     /// What is noted of the service.
     pub(crate) fn noted(&self) -> Noted
@@ -69,15 +116,6 @@ impl<D: Devices, F: FrameStore> Core<D, F> {
     {
         if granted {
             self.board.tell(before, ev);
-        }
-    }
-
-    /// Tells an event by what was noted before it, if it was.
-    pub(crate) fn tell_noted(&mut self, before: &Option<Noted>, ev: &Event)
-        ensures { self.new ≡ after_noting before.now ev.now self.old }
-    {
-        if let Some(before) = before {
-            self.tell(true, before, ev);
         }
     }
 

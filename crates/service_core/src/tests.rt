@@ -134,7 +134,10 @@ fn is_granted(core: &mut Core<MemDevices, PlainStore>, alloc: Global, ask: Ask) 
             .is_ok(),
         Ask::Hangup => core.hangup(CONNECTION).is_ok(),
         Ask::Shutdown => core.shutdown().is_ok(),
-        Ask::Period => core.period(SPEAKERS, &mut None).is_ok(),
+        Ask::Period => match replied(core, alloc, &event_of(Told::Period)) {
+            Ok(reply) => reply.result == Hr::S_OK,
+            Err(_) => false,
+        },
     }
 }
 

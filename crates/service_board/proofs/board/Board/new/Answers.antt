@@ -11,6 +11,7 @@ returns-clause-new g c =
       seats = c.in-Ok-with_capacity.seats;
       entries = c.in-Ok-with_capacity-2.entries;
       drafts = c.in-Ok-with_capacity-3.drafts;
+      failed = c.new-2.result;
     })
     c.in-Ok.ensures c.in-Ok-with_capacity.ensures.items c.in-Ok-with_capacity-2.ensures.items
     (omega (arith, c.in-Ok-with_capacity.ensures.exact)) (omega (arith, c.in-Ok-with_capacity-2.ensures.exact))

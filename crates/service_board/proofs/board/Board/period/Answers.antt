@@ -15,4 +15,4 @@ returns-clause-does g c =
 pub returns-clause-notes : goal.returns-clause-notes
 returns-clause-notes g c =
     same_notes c.args.self.now c.refresh_gains.new.self c.refresh_gains.ensures.same c.play_due.result
-    c.args.before.now c.play_due.new.before c.play_due.ensures.notes
+    c.play_due.new.self.failed c.play_due.ensures.notes

@@ -1,4 +1,4 @@
-use Rattle.std.proofs.Common.{◌∙◌, None, Some, false, true, ap, arith, refl, sym}
+use Rattle.std.proofs.Common.{◌∙◌, None, false, true, arith, refl, sym}
 use Rattle.std.proofs.lemmas.Option.{none-some}
 use Rattle.std.proofs.lemmas.Result.{err_from_is_err_and}
 use Rattle.ca_machine.specs.Periods.{period_plan}
@@ -150,6 +150,7 @@ returns-in-Ok-set_state-clause-does g c =
     c.period_frames-frames.result false _ c.play.new.all c.close_failed.new.all _ _ _ _ c.in-Err.ensures.sounds
     c.in-Err.ensures.picked c.close_failed.ensures.turned)
     c.close_failed.ensures.rested c.set_state.new.self c.in-Ok-set_state.ensures.now
+    c.close_failed.new.before
     c.requires.fresh
 
 pub returns-in-Ok-set_state-clause-order : goal.returns-in-Ok-set_state-clause-order
@@ -171,11 +172,11 @@ returns-in-Ok-set_state-clause-order g c =
     c.period_frames-frames.result false _ c.play.new.all c.close_failed.new.all _ _ _ _ c.in-Err.ensures.sounds
     c.in-Err.ensures.picked c.close_failed.ensures.turned)
     c.close_failed.ensures.rested c.set_state.new.self c.in-Ok-set_state.ensures.now
+    c.close_failed.new.before
 
 pub returns-in-Ok-set_state-clause-notes : goal.returns-in-Ok-set_state-clause-notes
 returns-in-Ok-set_state-clause-notes g c = λ datas tally.
     c.close_failed.ensures.notes
-    ∙ ap (λ n. Some n)
-    (noted_sounded g.E.EngineSide.moves c.args.self.now c.args.e.0 c.period_frames-frames.result _ false
+    ∙ noted_sounded g.E.EngineSide.moves c.args.self.now c.args.e.0 c.period_frames-frames.result _ false
     c.deref_mut-entries.result.now c.play.new.all _ _ _ _ c.deref_mut-entries.ensures.value
-    c.in-Err.ensures.sounds datas tally)
+    c.in-Err.ensures.sounds datas tally

@@ -1,6 +1,6 @@
 use Rattle.std.proofs.Common.{None}
 use Rattle.std.proofs.lemmas.Result.{err_from_is_err_and}
-use Rattle.ca_machine.specs.Devices.{leaves_active, set_state_plan}
+use Rattle.ca_machine.specs.Devices.{set_state_plan}
 use Rattle.service_board.specs.Does.{AnyData}
 use Rattle.service_board.proofs.Doing.{refused_does}
 use Rattle.service_board.proofs.NamedDoes.{named_read, state_does, state_order, state_refused}

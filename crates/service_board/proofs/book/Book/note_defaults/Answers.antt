@@ -1,4 +1,4 @@
-use Rattle.std.proofs.Common.{◌≡◌, ap, set, ◌∙◌, arith}
+use Rattle.std.proofs.Common.{ap, set, ◌∙◌, arith}
 use Rattle.ca_stage.specs.Stage.{empty_stage}
 use Rattle.ca_stage.specs.Tally.{no_tally}
 use Rattle.step_notices.specs.Notes.{Notes}
