@@ -76,7 +76,8 @@ class Bench(unittest.TestCase):
         for taken in (False, True):
             source = bench.notices(self.folder / "events", 2, taken)
             names = [event.name for event in self.events(source)]
-            self.assertEqual(names[5:], ["Register"] + (["SetChannel"] * 256 + ["TakeNotices"] * taken) * 2 + ["Period"])
+            one = ["SetChannel"] * 256 + ["TakeNotices"] * taken
+            self.assertEqual(names[5:], ["Register"] + one * 2 + ["Period"])
 
     def test_the_floors_copy_the_input(self):
         source = bench.small_events(self.folder / "events", 100)

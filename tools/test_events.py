@@ -403,7 +403,8 @@ period endpoint=1
         line = events.reply_line(bytes.fromhex("03" "01" "01000000" "00000000" + payload), "TakeNotices")
         self.assertEqual(line, 'S_OK events=[] lost=1 notices=['
                          'notice=device_state subject=1 context=null value=8 text="", '
-                         'notice=display_name subject=2 context=00112233-4455-6677-8899-aabbccddeeff value=0 text="Hi"]')
+                         'notice=display_name subject=2 context=00112233-4455-6677-8899-aabbccddeeff value=0 '
+                         'text="Hi"]')
 
     def test_show_of_a_cut_or_malformed_input(self):
         wrong = [("05000000" "04", "5 bytes are wanted and 1 are left"),
