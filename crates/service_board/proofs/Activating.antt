@@ -25,15 +25,16 @@ use Rattle.ca_machine.specs.SharedRows.{control_rows, is_inactive}
 use Rattle.ca_machine.specs.Clients.{activate_plan, activate_rows, is_role, new_client}
 use Rattle.buffer_ring.specs.declared.step.EndState.{EndState}
 use Rattle.period_engine.specs.declared.entry.StreamEntry.{StreamEntry}
+use Rattle.service_book.specs.InOrder.{HasLevels, IsBook, IsOwned}
+use Rattle.service_book.specs.declared.book.Book.{Book}
+use Rattle.service_book.proofs.Finding.{found_at, none_at}
+use Rattle.service_book.proofs.Rows.{row_fails}
 use Rattle.service_board.specs.Board.{state_of}
-use Rattle.service_board.specs.InOrder.{Belongs, HasLevels, InOrder, IsBook, IsOwned}
+use Rattle.service_board.specs.InOrder.{Belongs, InOrder}
 use Rattle.service_board.specs.Lookups.{Says}
 use Rattle.service_board.specs.declared.board.Board.{Board}
-use Rattle.service_board.specs.declared.book.Book.{Book}
-use Rattle.service_board.proofs.Finding.{found_at, none_at}
 use Rattle.service_board.proofs.Granting.{Grants}
 use Rattle.service_board.proofs.LookingUp.{says_later}
-use Rattle.service_board.proofs.Rows.{row_fails}
 
 -- the rows behind those of the connection
 abbrev pub own_rows : ℕ → ℕ → State → List (Row Hr)

@@ -28,15 +28,16 @@ use Rattle.ca_machine.specs.Devices.{add_plan, add_rows, new_endpoint}
 use Rattle.ca_machine.specs.View.{AnswersBy, outside}
 use Rattle.period_engine.specs.declared.entry.StreamEntry.{StreamEntry}
 use Rattle.period_engine.specs.Entries.{streams_of}
+use Rattle.service_book.specs.InOrder.{IsBook}
+use Rattle.service_book.proofs.Rows.{row_fails}
 use Rattle.service_board.specs.Board.{playhead_of, stage_with, state_of}
 use Rattle.service_board.specs.Does.{AnyData, Does, Made, store_at}
-use Rattle.service_board.specs.InOrder.{IsOn, Belongs, InOrder, IsBook, Seats, is_seat, next_at}
+use Rattle.service_board.specs.InOrder.{IsOn, Belongs, InOrder, Seats, is_seat, next_at}
 use Rattle.service_board.specs.Lookups.{Says}
 use Rattle.service_board.specs.declared.board.Board.{Board}
 use Rattle.service_board.specs.declared.board.Seat.{Seat}
 use Rattle.service_board.proofs.Doing.{add_none, made_still}
 use Rattle.service_board.proofs.Offering.{answers_granted_by}
-use Rattle.service_board.proofs.Rows.{row_fails}
 
 -- a board whose stores stay goes on as a plan says
 pub stays_does : {D E : Type 0} (faults : D → ℕ) (told : D → Option (List DeviceLog))

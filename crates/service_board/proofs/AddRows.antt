@@ -1,10 +1,9 @@
 -- Add: what its rows say of a board, and what it makes of one.
 use Rattle.std.proofs.Common.{◌≡◌, ℕ, ◌<◌, ◌==◌, ◌||◌, nat_le, nat_lt, not, List, [], ◌∷◌, length, arith}
 use Rattle.std.proofs.Common.{Bool, true, false, Option, Some, None, refl, sym}
-use Rattle.std.proofs.Common.{Result, Ok, Err, MatchResult, is_ok, is_some}
-use Rattle.std.specs.Str.{IsUtf8, is_utf8}
+use Rattle.std.proofs.Common.{Ok, Err, is_some}
+use Rattle.std.specs.Str.{is_utf8}
 use Rattle.std.proofs.lemmas.Bool.Decides.{nat_tests}
-use Rattle.std.proofs.lemmas.Str.{is_utf8-from_IsUtf8, IsUtf8-from_is_utf8}
 use Rattle.ca_base.specs.declared.codes.Hr.{Hr}
 use Rattle.ca_base.specs.declared.codes.TheConstants.Hr as hr
 use Rattle.ca_base.specs.declared.limits.TheConstants.{ENDPOINTS}
@@ -18,21 +17,9 @@ use Rattle.ca_machine.specs.State.{State}
 use Rattle.ca_machine.specs.Streams.{is_faulty}
 use Rattle.device_registry.specs.Endpoints.{EndpointList}
 use Rattle.device_registry.specs.Rows.{add_rows as registry_rows}
+use Rattle.service_book.proofs.Rows.{row_holds, row_passes}
 use Rattle.service_board.specs.Lookups.{Says}
 use Rattle.service_board.specs.declared.board.Board.{Board}
-use Rattle.service_board.proofs.Rows.{row_holds, row_passes}
-
--- ---- texts
-
-fails : (bytes : List ℕ) (b : Bool) → is_utf8 bytes ≡ b → ¬ (IsUtf8 bytes) → false ≡ b
-fails bytes true e h = absurd (h (IsUtf8-from_is_utf8 bytes e))
-fails bytes false e h = refl
-
--- a text is what is read as one
-pub text_by : {A B : Type 0} (P : A → Type 0) (Q : B → Type 0) (bytes : List ℕ) (r : Result A B) →
-    MatchResult r (λ s. P s × IsUtf8 bytes) (λ e. ¬ (IsUtf8 bytes) × Q e) → is_ok r ≡ is_utf8 bytes
-text_by P Q bytes (Ok s) h = sym (is_utf8-from_IsUtf8 bytes h.1)
-text_by P Q bytes (Err e) h = fails bytes (is_utf8 bytes) refl h.0
 
 -- ---- formats
 

@@ -21,12 +21,13 @@ use Rattle.device_registry.specs.Endpoints.{EndpointList, changed, is_endpoint}
 use Rattle.ca_machine.specs.Plan.{granted}
 use Rattle.period_engine.specs.declared.entry.StreamEntry.{StreamEntry}
 use Rattle.std.specs.Vec.{vec_capacity}
-use Rattle.service_board.specs.Board.{book_state, playhead_of, state_of}
+use Rattle.service_book.specs.BookState.{book_state}
+use Rattle.service_book.specs.declared.book.Book.{Book}
+use Rattle.service_board.specs.Board.{playhead_of, state_of}
 use Rattle.service_board.specs.Closing.{Disconnects}
 use Rattle.service_board.specs.InOrder.{InOrder, IsOn, Seats, next_at}
 use Rattle.service_board.specs.declared.board.Board.{Board}
 use Rattle.service_board.specs.declared.board.Seat.{Seat}
-use Rattle.service_board.specs.declared.book.Book.{Book}
 use Rattle.service_board.proofs.ChangedEndpoints.{book_changed, found_changed}
 use Rattle.service_board.proofs.Disconnecting.{IsGranted, close_moves, stage_after, stage_before, stage_moved}
 use Rattle.service_board.proofs.DisconnectedOrder.{disconnected_order, is_lost}

@@ -9,9 +9,10 @@ use Rattle.ca_stage.proofs.Lists.{chosen, find_map}
 use Rattle.device_registry.specs.declared.endpoint.Endpoint.{Endpoint}
 use Rattle.device_registry.specs.Endpoints.{EndpointList, changed, is_endpoint}
 use Rattle.device_registry.specs.Changes.{with_changed}
-use Rattle.service_board.specs.InOrder.{IsBook, Seats}
+use Rattle.service_book.specs.InOrder.{IsBook}
+use Rattle.service_book.specs.declared.book.Book.{Book}
+use Rattle.service_board.specs.InOrder.{Seats}
 use Rattle.service_board.specs.declared.board.Seat.{Seat}
-use Rattle.service_board.specs.declared.book.Book.{Book}
 
 -- an endpoint that was found is found, with its format
 pub record KeepsFormat (old new : List Endpoint) (n : ℕ) (e : Endpoint) : Type 0 where

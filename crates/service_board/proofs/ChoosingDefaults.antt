@@ -15,6 +15,7 @@ use Rattle.role_defaults.specs.declared.choices.Choices.{Choices}
 use Rattle.role_defaults.specs.Defaults.{with_choice}
 use Rattle.ca_machine.specs.State.{State, endpoint_at}
 use Rattle.ca_machine.specs.Devices.{is_wrong_choice, missing_rows, set_default_plan}
+use Rattle.service_book.proofs.Rows.{row_holds, row_passes}
 use Rattle.service_board.specs.Board.{state_of}
 use Rattle.service_board.specs.Does.{AnyData, Does}
 use Rattle.service_board.specs.Lookups.{Says}
@@ -23,7 +24,6 @@ use Rattle.service_board.specs.declared.board.Board.{Board}
 use Rattle.service_board.proofs.Granting.{book_does}
 use Rattle.service_board.proofs.LookingUp.{says_front}
 use Rattle.service_board.proofs.NamedRows.{own_says}
-use Rattle.service_board.proofs.Rows.{row_holds, row_passes}
 
 -- ---- the rows
 

@@ -23,13 +23,14 @@ use Rattle.ca_machine.specs.SharedRows.{connection_rows}
 use Rattle.ca_machine.specs.State.{State, is_connected, is_connection}
 use Rattle.ca_machine.specs.Clients.{is_name, is_name_byte, new_connection, open_plan, open_rows}
 use Rattle.period_engine.specs.declared.entry.StreamEntry.{StreamEntry}
+use Rattle.service_book.specs.InOrder.{IsBook, IsOpen, IsOwned}
+use Rattle.service_book.specs.declared.book.Book.{Book}
+use Rattle.service_book.proofs.Rows.{row_fails}
 use Rattle.service_board.specs.Board.{state_of}
-use Rattle.service_board.specs.InOrder.{Belongs, InOrder, IsBook, IsOpen, IsOwned}
+use Rattle.service_board.specs.InOrder.{Belongs, InOrder}
 use Rattle.service_board.specs.Lookups.{Says}
 use Rattle.service_board.specs.declared.board.Board.{Board}
-use Rattle.service_board.specs.declared.book.Book.{Book}
 use Rattle.service_board.proofs.Granting.{Grants}
-use Rattle.service_board.proofs.Rows.{row_fails}
 
 -- ---- the numbers of connections
 

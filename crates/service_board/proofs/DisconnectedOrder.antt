@@ -27,11 +27,13 @@ use Rattle.role_defaults.specs.declared.choices.Choices.{Choices}
 use Rattle.period_engine.specs.declared.entry.StreamEntry.{StreamEntry}
 use Rattle.period_engine.specs.Entries.{IsRested, stream_with}
 use Rattle.period_engine.specs.SubSteps.{Turned}
+use Rattle.service_book.specs.InOrder.{IsBook}
+use Rattle.service_book.specs.Gains.{gains_by}
+use Rattle.service_book.specs.declared.book.Book.{Book}
 use Rattle.service_board.specs.Closing.{Disconnects, closes_if, is_open_within}
-use Rattle.service_board.specs.InOrder.{Belongs, InOrder, IsBook, IsOn, Seats, gains_by}
+use Rattle.service_board.specs.InOrder.{Belongs, InOrder, IsOn, Seats}
 use Rattle.service_board.specs.declared.board.Board.{Board}
 use Rattle.service_board.specs.declared.board.Seat.{Seat}
-use Rattle.service_board.specs.declared.book.Book.{Book}
 use Rattle.service_board.proofs.ByClient.{clients_of}
 
 -- a close takes the open streams of an endpoint of this number

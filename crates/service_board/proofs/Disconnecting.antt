@@ -22,7 +22,9 @@ use Rattle.ca_machine.specs.View.{Outside, Passes, outside}
 use Rattle.period_engine.specs.declared.entry.StreamEntry.{StreamEntry}
 use Rattle.period_engine.specs.Agreement.{AllAgree}
 use Rattle.period_engine.specs.Entries.{stream_of, streams_of}
-use Rattle.service_board.specs.Board.{book_state, playhead_of, stage_with, state_of}
+use Rattle.service_book.specs.BookState.{book_state}
+use Rattle.service_book.specs.declared.book.Book.{Book}
+use Rattle.service_board.specs.Board.{playhead_of, stage_with, state_of}
 use Rattle.service_board.specs.Closing.{Disconnects, closes_if, is_open_within}
 use Rattle.service_board.specs.Does.{AnyData, Does, Made, after_steps, store_at}
 use Rattle.service_board.specs.InOrder.{InOrder}
@@ -30,7 +32,6 @@ use Rattle.service_board.specs.Lookups.{Says}
 use Rattle.service_board.specs.Plays.{AllGo}
 use Rattle.service_board.specs.declared.board.Board.{Board}
 use Rattle.service_board.specs.declared.board.Seat.{Seat}
-use Rattle.service_board.specs.declared.book.Book.{Book}
 use Rattle.service_board.proofs.ByClient.{all_made, all_turned, are_after, go_alike, steps_of, streams_went, within}
 use Rattle.service_board.proofs.ByClient.{within_each, within_none}
 use Rattle.service_board.proofs.Offering.{answers_granted_by}

@@ -19,14 +19,14 @@ use Rattle.device_registry.specs.declared.endpoint.Endpoint.{Endpoint}
 use Rattle.device_registry.specs.Endpoints.{is_endpoint}
 use Rattle.ca_machine.specs.Periods.{period_frames, period_of, period_plan}
 use Rattle.ca_machine.specs.State.{endpoint_at}
+use Rattle.service_book.proofs.Finding.{FoundAt, find_mapped, found_at, none_at}
+use Rattle.service_book.proofs.Rows.{row_holds, row_passes}
 use Rattle.service_board.specs.Board.{playhead_of, state_of}
 use Rattle.service_board.specs.Due.{FindsDue}
 use Rattle.service_board.specs.InOrder.{Seats, is_seat, next_at}
 use Rattle.service_board.specs.Lookups.{Says}
 use Rattle.service_board.specs.declared.board.Board.{Board}
 use Rattle.service_board.specs.declared.board.Seat.{Seat}
-use Rattle.service_board.proofs.Finding.{FoundAt, find_mapped, found_at, none_at}
-use Rattle.service_board.proofs.Rows.{row_holds, row_passes}
 
 -- ---- the seat of an endpoint
 

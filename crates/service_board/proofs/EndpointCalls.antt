@@ -11,11 +11,12 @@ use Rattle.device_registry.specs.declared.endpoint.Endpoint.{Endpoint}
 use Rattle.ca_machine.specs.State.{State, client_of}
 use Rattle.ca_machine.specs.Plan.{Outcome, plain}
 use Rattle.ca_machine.specs.SharedRows.{endpoint_of, with_endpoint}
+use Rattle.service_book.specs.Lookups.{IsActiveAt}
+use Rattle.service_book.specs.declared.book.Book.{Book}
 use Rattle.service_board.specs.Board.{state_of}
 use Rattle.service_board.specs.Does.{Does}
-use Rattle.service_board.specs.Lookups.{FindsEndpoint, IsActiveAt, Says}
+use Rattle.service_board.specs.Lookups.{FindsEndpoint, Says}
 use Rattle.service_board.specs.declared.board.Board.{Board}
-use Rattle.service_board.specs.declared.book.Book.{Book}
 use Rattle.service_board.proofs.Granting.{book_does}
 use Rattle.service_board.proofs.StreamRows.{grants_outcome}
 

@@ -14,10 +14,10 @@ use Rattle.ca_machine.specs.declared.state.Client.{Client}
 use Rattle.ca_machine.specs.State.{live_clients}
 use Rattle.period_engine.specs.declared.entry.StreamEntry.{StreamEntry}
 use Rattle.period_engine.specs.Entries.{AreEntries}
+use Rattle.service_book.specs.declared.book.Book.{Book}
 use Rattle.service_board.specs.InOrder.{Belongs, InOrder}
 use Rattle.service_board.specs.declared.board.Board.{Board}
 use Rattle.service_board.specs.declared.board.Seat.{Seat}
-use Rattle.service_board.specs.declared.book.Book.{Book}
 use Rattle.service_board.proofs.ByClient.{clients_of}
 
 -- a number that is among numbers that rise from a lowest one isn't below it

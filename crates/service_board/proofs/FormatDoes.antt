@@ -31,6 +31,7 @@ use Rattle.ca_machine.specs.Streams.{is_faulty, matches}
 use Rattle.ca_machine.specs.View.{outside}
 use Rattle.period_engine.specs.declared.entry.StreamEntry.{StreamEntry}
 use Rattle.period_engine.specs.declared.sounding.Block.{Block}
+use Rattle.service_book.proofs.Rows.{row_holds, row_passes}
 use Rattle.service_board.specs.Board.{playhead_of, state_of}
 use Rattle.service_board.specs.Closing.{Disconnects}
 use Rattle.service_board.specs.Does.{AnyData, Does}
@@ -48,7 +49,6 @@ use Rattle.service_board.proofs.DuePeriods.{SeatAt, next_by_heads, seat_at}
 use Rattle.service_board.proofs.Memory.{answers_out_of_memory}
 use Rattle.service_board.proofs.NamedDoes.{granted_named}
 use Rattle.service_board.proofs.NamedRows.{own_says, unnamed_says}
-use Rattle.service_board.proofs.Rows.{row_holds, row_passes}
 
 -- ---- the rows
 

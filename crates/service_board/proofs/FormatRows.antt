@@ -16,17 +16,17 @@ use Rattle.ca_machine.specs.SharedRows.{control_rows}
 use Rattle.ca_machine.specs.State.{State}
 use Rattle.ca_machine.specs.Streams.{endpoint_rows, format_payload, is_faulty, is_format_supported_plan, is_malformed, matches, supported}
 use Rattle.reply_payload.specs.Answers.{code_of, payload_bytes, payload_code, payload_of}
+use Rattle.service_book.specs.Formats.{TellsSupport, support_payload}
 use Rattle.service_board.specs.Board.{state_of}
 use Rattle.service_board.specs.Does.{AnyData, Does}
-use Rattle.service_board.specs.Formats.{TellsSupport, support_payload}
 use Rattle.service_board.specs.Lookups.{FindsEndpoint, Says}
 use Rattle.service_board.specs.declared.board.Board.{Board}
 use Rattle.reply_payload.specs.declared.payload.Payload.{Payload}
 use Rattle.reply_payload.specs.declared.payload.Payload.TheVariants as payload
+use Rattle.service_book.proofs.Rows.{row_holds, row_passes}
 use Rattle.service_board.proofs.Doing.{refused_does}
 use Rattle.service_board.proofs.EndpointCalls.{endpoint_read, endpoint_there, plain_tells, told}
 use Rattle.service_board.proofs.LookingUp.{says_front, says_later}
-use Rattle.service_board.proofs.Rows.{row_holds, row_passes}
 
 -- the call's own rows, before and behind those of the endpoint
 abbrev pub share_rows : ℕ → State → List (Row Hr)

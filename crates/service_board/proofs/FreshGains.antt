@@ -9,11 +9,12 @@ use Rattle.buffer_ring.specs.declared.step.EndState.{EndState}
 use Rattle.ca_stage.specs.Order.{RisesFrom}
 use Rattle.period_engine.specs.declared.entry.StreamEntry.{StreamEntry}
 use Rattle.period_engine.specs.Entries.{IsRested}
+use Rattle.service_book.specs.InOrder.{IsBook}
+use Rattle.service_book.specs.declared.book.Book.{Book}
 use Rattle.service_board.specs.Gains.{HasClient, HasSameStream, Regains}
-use Rattle.service_board.specs.InOrder.{Belongs, InOrder, IsBook, Seats}
+use Rattle.service_board.specs.InOrder.{Belongs, InOrder, Seats}
 use Rattle.service_board.specs.declared.board.Board.{Board}
 use Rattle.service_board.specs.declared.board.Seat.{Seat}
-use Rattle.service_board.specs.declared.book.Book.{Book}
 
 -- the client of an entry that belongs to a book
 pub have_clients : {E : Type 0} (book : Book) (seats : List Seat) (xs : List (StreamEntry E)) →

@@ -6,8 +6,9 @@ use Rattle.std.specs.List.{AllByRecursion}
 use Rattle.buffer_ring.specs.declared.step.Step.{Step}
 use Rattle.ca_machine.specs.declared.state.Client.{Client}
 use Rattle.period_engine.specs.declared.entry.StreamEntry.{StreamEntry}
+use Rattle.service_book.specs.Leaving.{is_live}
 use Rattle.service_board.specs.Does.{Made, store_at}
-use Rattle.service_board.specs.Leaving.{Goes, is_live, is_of_live}
+use Rattle.service_board.specs.Leaving.{Goes, is_of_live}
 
 module _ {E : Type 0} (moves : E → List Step → E → Type 0) (clients : List Client) where
   -- an entry's store goes if no live client has it

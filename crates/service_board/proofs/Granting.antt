@@ -10,10 +10,10 @@ use Rattle.ca_machine.specs.State.{State}
 use Rattle.ca_machine.specs.Plan.{Plan, AreAnswers, unless_refused, unless_row}
 use Rattle.ca_machine.specs.Plan.Asked.{nothing}
 use Rattle.ca_machine.specs.View.{AnswersBy, Outside, Passes, outside}
+use Rattle.service_book.specs.declared.book.Book.{Book}
 use Rattle.service_board.specs.Board.{state_of}
 use Rattle.service_board.specs.Does.{Does, Made, after_steps, store_at}
 use Rattle.service_board.specs.declared.board.Board.{Board}
-use Rattle.service_board.specs.declared.book.Book.{Book}
 use Rattle.service_board.proofs.Doing.{not_asked}
 
 -- no row refuses an event that asks nothing and has nothing written, and this is what it gets

@@ -21,9 +21,10 @@ use Rattle.ca_machine.specs.Plan.{Plan}
 use Rattle.ca_machine.specs.SharedRows.{connection_rows}
 use Rattle.ca_machine.specs.State.{State, notices_of, with_notices_of}
 use Rattle.ca_machine.specs.View.{AnswersBy, Outside, outside}
+use Rattle.service_book.specs.InOrder.{IsBook}
 use Rattle.service_board.specs.Board.{state_of}
 use Rattle.service_board.specs.Does.{AnyData, Does}
-use Rattle.service_board.specs.InOrder.{InOrder, IsBook}
+use Rattle.service_board.specs.InOrder.{InOrder}
 use Rattle.service_board.specs.Lookups.{FindsNotices, Says}
 use Rattle.service_board.specs.declared.board.Board.{Board}
 use Rattle.service_board.proofs.AddDoes.{stays_does}

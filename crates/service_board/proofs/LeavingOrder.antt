@@ -17,10 +17,12 @@ use Rattle.ca_machine.specs.State.{is_connection, live_clients}
 use Rattle.ca_machine.specs.Clients.{is_client_on}
 use Rattle.period_engine.specs.declared.entry.StreamEntry.{StreamEntry}
 use Rattle.period_engine.specs.Entries.{IsRested}
-use Rattle.service_board.specs.InOrder.{Belongs, HasLevels, InOrder, IsBook, IsOpen, IsOwned}
-use Rattle.service_board.specs.Leaving.{Forgets, is_live, is_of_live}
+use Rattle.service_book.specs.InOrder.{HasLevels, IsBook, IsOpen, IsOwned}
+use Rattle.service_book.specs.Leaving.{is_live}
+use Rattle.service_book.specs.declared.book.Book.{Book}
+use Rattle.service_board.specs.InOrder.{Belongs, InOrder}
+use Rattle.service_board.specs.Leaving.{Forgets, is_of_live}
 use Rattle.service_board.specs.declared.board.Board.{Board}
-use Rattle.service_board.specs.declared.book.Book.{Book}
 use Rattle.service_board.proofs.Kept.{fewer_kept, found_kept, rises_kept}
 use Rattle.service_board.proofs.LeavingState.{without_clients}
 

@@ -26,11 +26,12 @@ use Rattle.ca_machine.proofs.ClosesOfClients.{present_after_closes}
 use Rattle.period_engine.specs.declared.entry.StreamEntry.{StreamEntry}
 use Rattle.period_engine.specs.Entries.{stream_of, stream_with, streams_of}
 use Rattle.period_engine.specs.Agreement.{data_after}
+use Rattle.service_book.specs.Leaving.{is_live}
+use Rattle.service_book.specs.declared.book.Book.{Book}
 use Rattle.service_board.specs.Board.{stage_with, state_of}
 use Rattle.service_board.specs.Does.{Made, after_steps, channels_at, store_at}
-use Rattle.service_board.specs.Leaving.{AreClosed, Forgets, Keeps, is_in_use, is_live, is_of_live}
+use Rattle.service_board.specs.Leaving.{AreClosed, Forgets, Keeps, is_in_use, is_of_live}
 use Rattle.service_board.specs.declared.board.Board.{Board}
-use Rattle.service_board.specs.declared.book.Book.{Book}
 use Rattle.service_board.proofs.GoingSteps.{GoesUnlessLive, made_of, none_of_live, steps_of}
 use Rattle.service_board.proofs.Kept.{any_mapped, apart, kept_alike, kept_mapped}
 

@@ -1,10 +1,6 @@
-pub mod Finding
 pub mod LookingUp
 pub mod ValidEndpoints
 pub mod Granting
-pub mod Rows
-pub mod Halves
-pub mod Supporting
 pub mod EndpointCalls
 pub mod FormatRows
 pub mod StreamRows
@@ -32,7 +28,6 @@ pub mod RemovedBoards
 pub mod NamingEndpoints
 pub mod ChoosingDefaults
 pub mod PeriodOrder
-pub mod Joining
 pub mod PeriodEnds
 pub mod Sounding
 pub mod Connecting

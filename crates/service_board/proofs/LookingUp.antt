@@ -21,12 +21,12 @@ use Rattle.ca_machine.specs.State.{State, is_client_of, is_connection}
 use Rattle.ca_machine.specs.SharedRows.{client_rows, connection_rows, control_rows, shut_rows, stream_rows}
 use Rattle.period_engine.specs.declared.entry.StreamEntry.{StreamEntry}
 use Rattle.period_engine.specs.Entries.{stream_of}
+use Rattle.service_book.specs.InOrder.{IsOwned}
+use Rattle.service_book.proofs.Rows.{row_fails}
+use Rattle.service_book.proofs.Finding.{FoundAt, found_at, none_at, find_mapped, first_front, first_later}
 use Rattle.service_board.specs.Board.{state_of}
-use Rattle.service_board.specs.InOrder.{IsOwned}
 use Rattle.service_board.specs.Lookups.{FindsClient, FindsStream, Says, client_call_rows, client_control_rows, is_entry_of, stream_call_rows}
 use Rattle.service_board.specs.declared.board.Board.{Board}
-use Rattle.service_board.proofs.Rows.{row_fails}
-use Rattle.service_board.proofs.Finding.{FoundAt, found_at, none_at, find_mapped, first_front, first_later}
 
 -- rows that come first refuse, whatever comes behind them
 pub says_front : {D E : Type 0} (b : Board D E) (front rest : State → List (Row Hr)) (code : Hr) →

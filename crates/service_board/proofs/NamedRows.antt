@@ -9,10 +9,10 @@ use Rattle.device_registry.specs.Endpoints.{is_endpoint, is_state}
 use Rattle.ca_machine.specs.State.{State, endpoint_at}
 use Rattle.ca_machine.specs.Devices.{missing_rows, set_state_plan}
 use Rattle.ca_machine.specs.SharedRows.{shut_rows}
+use Rattle.service_book.proofs.Finding.{found_at, none_at}
 use Rattle.service_board.specs.Lookups.{Says}
 use Rattle.service_board.specs.NamedEndpoints.{FindsNamed}
 use Rattle.service_board.specs.declared.board.Board.{Board}
-use Rattle.service_board.proofs.Finding.{found_at, none_at}
 use Rattle.service_board.proofs.LookingUp.{says_front, says_later}
 
 module _ {D E : Type 0} (b : Board D E) (number : ℕ) where

@@ -17,6 +17,7 @@ use Rattle.device_registry.specs.Endpoints.{EndpointList, endpoint_at, replaced_
 use Rattle.device_registry.specs.Rows.{found_rows}
 use Rattle.ca_machine.specs.State.{State}
 use Rattle.ca_machine.specs.Devices.{missing_rows, set_name_plan, with_name}
+use Rattle.service_book.proofs.Rows.{row_holds, row_passes}
 use Rattle.service_board.specs.Board.{state_of}
 use Rattle.service_board.specs.Does.{AnyData, Does}
 use Rattle.service_board.specs.InOrder.{InOrder}
@@ -29,7 +30,6 @@ use Rattle.service_board.proofs.DisconnectedOrder.{none_lost}
 use Rattle.service_board.proofs.Granting.{book_does}
 use Rattle.service_board.proofs.LookingUp.{says_front}
 use Rattle.service_board.proofs.NamedRows.{own_says}
-use Rattle.service_board.proofs.Rows.{row_holds, row_passes}
 
 -- ---- the rows
 

@@ -9,10 +9,12 @@ use Rattle.ca_stage.specs.Order.{RisesFrom}
 use Rattle.ca_machine.specs.State.{live_clients}
 use Rattle.device_registry.specs.Endpoints.{EndpointList}
 use Rattle.period_engine.specs.Entries.{AreInOrder, IsRested}
-use Rattle.service_board.specs.InOrder.{Belongs, HasLevels, IsBook, IsOpen, IsOwned, Seats}
-use Rattle.service_board.specs.New.{IsEmptyBook, IsNewBoard}
+use Rattle.service_book.specs.InOrder.{HasLevels, IsBook, IsOpen, IsOwned}
+use Rattle.service_book.specs.New.{IsEmptyBook}
+use Rattle.service_book.specs.declared.book.Book.{Book}
+use Rattle.service_board.specs.InOrder.{Belongs, Seats}
+use Rattle.service_board.specs.New.{IsNewBoard}
 use Rattle.service_board.specs.declared.board.Board.{Board}
-use Rattle.service_board.specs.declared.book.Book.{Book}
 
 none_apart : IsDistinct nat_eq []
 unfolding IsDistinct

@@ -1,35 +1,18 @@
 -- What is noted of a board.
-use Rattle.std.proofs.Common.{◌≡◌, ℕ, zero, suc, ◌+◌, ◌≤◌, ◌<◌, List, [], ◌∷◌, ◌++◌, length, map, take, drop, set}
-use Rattle.std.proofs.Common.{refl, ap, arith}
+use Rattle.std.proofs.Common.{◌≡◌, ℕ, ◌≤◌, List, [], ◌∷◌, length, map}
+use Rattle.std.proofs.Common.{refl, ap}
 use Rattle.ca_base.specs.declared.limits.TheConstants.{CLIENTS}
 use Rattle.buffer_ring.specs.declared.step.EndState.{EndState}
-use Rattle.ca_stage.specs.Stage.{BufferData, empty_stage}
-use Rattle.ca_stage.specs.Tally.{Tally, no_tally}
-use Rattle.step_notices.specs.Notes.{no_notes}
-use Rattle.ca_machine.specs.Notices.{default_number, noted, noted_stream}
+use Rattle.ca_stage.specs.Stage.{BufferData}
+use Rattle.ca_stage.specs.Tally.{Tally}
+use Rattle.ca_machine.specs.Notices.{noted, noted_stream}
 use Rattle.period_engine.specs.declared.entry.StreamEntry.{StreamEntry}
 use Rattle.period_engine.specs.Entries.{streams_of}
-use Rattle.service_board.specs.Board.{book_state, state_of}
+use Rattle.service_board.specs.Board.{state_of}
 use Rattle.service_board.specs.InOrder.{InOrder}
-use Rattle.service_board.specs.Telling.{defaults_of, noted_entry, noted_with}
+use Rattle.service_board.specs.Telling.{noted_entry, noted_with}
 use Rattle.service_board.specs.declared.board.Board.{Board}
-use Rattle.service_board.specs.declared.book.Book.{Book}
 use Rattle.service_board.proofs.Fewer.{are_entries}
-
--- the defaults, as far as they are noted
-abbrev pub defaults_to : ℕ → Book → List ℕ
-defaults_to n book = take n (defaults_of book) ++ drop n no_notes.defaults
-
--- one more
-pub one_default : (n : ℕ) (book : Book) → n < 6 →
-    set (defaults_to n book) n (default_number (book_state book empty_stage no_tally) n) ≡ defaults_to (n + 1) book
-one_default zero book few = refl
-one_default (suc zero) book few = refl
-one_default (suc (suc zero)) book few = refl
-one_default (suc (suc (suc zero))) book few = refl
-one_default (suc (suc (suc (suc zero)))) book few = refl
-one_default (suc (suc (suc (suc (suc zero))))) book few = refl
-one_default (suc (suc (suc (suc (suc (suc n)))))) book few = absurd (omega arith)
 
 -- the streams of entries are noted as the entries are, whatever the data
 pub noted_streams : {E : Type 0} (datas : ℕ → BufferData) (entries : List (StreamEntry E)) →

@@ -24,14 +24,16 @@ use Rattle.ca_machine.specs.View.{AnswersBy, Outside, outside}
 use Rattle.ca_machine.specs.Streams.{endpoint_channels, initialize_rows, initialized, is_kept, joined_by, new_stream, opened_in, session_key, shared_buffer}
 use Rattle.period_engine.specs.declared.entry.StreamEntry.{StreamEntry}
 use Rattle.period_engine.specs.Entries.{stream_of}
-use Rattle.service_board.specs.Board.{book_state, stage_with, state_of}
+use Rattle.service_book.specs.BookState.{book_state}
+use Rattle.service_book.specs.Openings.{Joins, arguments, opening_plan}
+use Rattle.service_book.specs.declared.book.Book.{Book}
+use Rattle.service_book.specs.declared.opening.Opening.{Opening as Asked}
+use Rattle.service_book.specs.declared.opening.OpeningPlan.{OpeningPlan}
+use Rattle.service_board.specs.Board.{stage_with, state_of}
 use Rattle.service_board.specs.Does.{Does, Made, store_at}
 use Rattle.service_board.specs.Lookups.{is_entry_of}
-use Rattle.service_board.specs.Openings.{IsFresh, Joins, Plans, arguments, new_entry, opening_plan}
+use Rattle.service_board.specs.Openings.{IsFresh, Plans, new_entry}
 use Rattle.service_board.specs.declared.board.Board.{Board}
-use Rattle.service_board.specs.declared.book.Book.{Book}
-use Rattle.service_board.specs.declared.opening.Opening.{Opening as Asked}
-use Rattle.service_board.specs.declared.opening.OpeningPlan.{OpeningPlan}
 use Rattle.service_board.proofs.Doing.{made_still}
 use Rattle.service_board.proofs.Memory.{answers_found, answers_out_of_memory}
 use Rattle.service_board.proofs.Planning.{key_is}

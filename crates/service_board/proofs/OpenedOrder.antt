@@ -21,13 +21,15 @@ use Rattle.ca_machine.specs.Streams.{is_cross_process}
 use Rattle.ca_machine.proofs.LiveClients.{found_is_live}
 use Rattle.period_engine.specs.declared.entry.StreamEntry.{StreamEntry}
 use Rattle.period_engine.specs.Entries.{AreInOrder, IsRested}
-use Rattle.service_board.specs.InOrder.{Belongs, InOrder, IsBook, IsOpen, Seats}
-use Rattle.service_board.specs.Openings.{IsNewStore, Joins, Plans, new_entry}
+use Rattle.service_book.specs.InOrder.{IsBook, IsOpen}
+use Rattle.service_book.specs.Openings.{Joins}
+use Rattle.service_book.specs.declared.book.Book.{Book}
+use Rattle.service_book.specs.declared.opening.Opening.{Opening as Asked}
+use Rattle.service_book.specs.declared.opening.OpeningPlan.{OpeningPlan}
+use Rattle.service_board.specs.InOrder.{Belongs, InOrder, Seats}
+use Rattle.service_board.specs.Openings.{IsNewStore, Plans, new_entry}
 use Rattle.service_board.specs.declared.board.Board.{Board}
 use Rattle.service_board.specs.declared.board.Seat.{Seat}
-use Rattle.service_board.specs.declared.book.Book.{Book}
-use Rattle.service_board.specs.declared.opening.Opening.{Opening as Asked}
-use Rattle.service_board.specs.declared.opening.OpeningPlan.{OpeningPlan}
 use Rattle.service_board.proofs.Places.{Splits, all_insert, length_insert, numbers, rises_insert, rising_within}
 
 -- ---- the live client of a number

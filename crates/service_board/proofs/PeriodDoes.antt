@@ -35,7 +35,8 @@ use Rattle.period_engine.specs.Agreement.{AllAgree}
 use Rattle.period_engine.specs.Entries.{stream_of, streams_of}
 use Rattle.period_engine.specs.Sounds.{MixesThese}
 use Rattle.period_engine.specs.SubSteps.{picks_on, retires_on}
-use Rattle.service_board.specs.Board.{book_state, playhead_of, stage_with, state_of}
+use Rattle.service_book.specs.BookState.{book_state}
+use Rattle.service_board.specs.Board.{playhead_of, stage_with, state_of}
 use Rattle.service_board.specs.Does.{AnyData, Does, after_steps}
 use Rattle.service_board.specs.Due.{FindsDue}
 use Rattle.service_board.specs.InOrder.{InOrder, Seats}

@@ -28,7 +28,8 @@ use Rattle.step_notices.specs.Notes.{Notes}
 use Rattle.period_engine.specs.declared.entry.StreamEntry.{StreamEntry}
 use Rattle.period_engine.specs.declared.sounding.Block.{Block}
 use Rattle.period_engine.specs.Entries.{IsRested}
-use Rattle.service_board.specs.Board.{book_state, playhead_of}
+use Rattle.service_book.specs.BookState.{book_state}
+use Rattle.service_board.specs.Board.{playhead_of}
 use Rattle.service_board.specs.Does.{AnyData, Does}
 use Rattle.service_board.specs.Due.{FindsDue}
 use Rattle.service_board.specs.InOrder.{InOrder, Seats}

@@ -14,8 +14,9 @@ use Rattle.session_manager.specs.Sessions.{session_at}
 use Rattle.ca_machine.specs.declared.state.Client.{Client}
 use Rattle.ca_machine.specs.Periods.{gain_in, gain_of, session_joined}
 use Rattle.period_engine.specs.declared.entry.StreamEntry.{StreamEntry}
+use Rattle.service_book.specs.Gains.{gains_by}
 use Rattle.service_board.specs.Board.{state_of}
-use Rattle.service_board.specs.InOrder.{InOrder, gains_by}
+use Rattle.service_board.specs.InOrder.{InOrder}
 use Rattle.service_board.specs.Lookups.{is_entry_of}
 use Rattle.service_board.specs.declared.board.Board.{Board}
 use Rattle.service_board.proofs.LookingUp.{stream_there}

@@ -26,17 +26,19 @@ use Rattle.device_registry.specs.Endpoints.{is_endpoint}
 use Rattle.ca_machine.specs.Periods.{period_frames}
 use Rattle.period_engine.specs.declared.entry.StreamEntry.{StreamEntry}
 use Rattle.period_engine.specs.Entries.{IsRested}
+use Rattle.service_book.specs.InOrder.{IsBook}
+use Rattle.service_book.specs.Gains.{gains_by}
+use Rattle.service_book.specs.declared.book.Book.{Book}
+use Rattle.service_book.proofs.Finding.{find_mapped}
 use Rattle.service_board.specs.Board.{playhead_of}
 use Rattle.service_board.specs.Due.{FindsDue}
-use Rattle.service_board.specs.InOrder.{Belongs, InOrder, IsBook, IsOn, Seats, gains_by, is_seat, next_at}
+use Rattle.service_board.specs.InOrder.{Belongs, InOrder, IsOn, Seats, is_seat, next_at}
 use Rattle.service_board.specs.Plays.{AllGo, GoesBy, Plays, StaysNear, plays_on}
 use Rattle.service_board.specs.declared.board.Board.{Board}
 use Rattle.service_board.specs.declared.board.Seat.{Seat}
-use Rattle.service_board.specs.declared.book.Book.{Book}
 use Rattle.service_board.proofs.ByClient.{clients_stay}
 use Rattle.service_board.proofs.ChangedEndpoints.{KeepsFormat}
 use Rattle.service_board.proofs.DuePeriods.{next_by_heads}
-use Rattle.service_board.proofs.Finding.{find_mapped}
 use Rattle.service_board.proofs.PeriodDoes.{any_mixing, heads_by}
 use Rattle.service_board.proofs.PeriodNeeds.{end_gains}
 

@@ -24,14 +24,14 @@ use Rattle.device_registry.specs.Endpoints.{is_endpoint}
 use Rattle.ca_machine.specs.SharedRows.{connection_rows, control_rows, endpoint_of, shut_rows}
 use Rattle.ca_machine.specs.Streams.{endpoint_rows, has_no_match, initialize_rows, is_cross_process, is_faulty, is_malformed, joining_rows, later_rows, session_key}
 use Rattle.buffer_ring.specs.declared.step.Step.{Step}
+use Rattle.service_book.specs.Openings.{argument_rows, arguments, format_rows, key_by, opening_plan}
+use Rattle.service_book.specs.declared.opening.Opening.{Opening as Asked}
+use Rattle.service_book.proofs.Finding.{found_at, none_at}
 use Rattle.service_board.specs.Board.{state_of}
 use Rattle.service_board.specs.Does.{AnyData, Does}
 use Rattle.service_board.specs.Lookups.{FindsEndpoint, Says, is_entry_of}
-use Rattle.service_board.specs.Openings.{argument_rows, arguments, format_rows, key_by, opening_plan}
 use Rattle.service_board.specs.declared.board.Board.{Board}
-use Rattle.service_board.specs.declared.opening.Opening.{Opening as Asked}
 use Rattle.service_board.proofs.Doing.{refused_does}
-use Rattle.service_board.proofs.Finding.{found_at, none_at}
 use Rattle.service_board.proofs.LookingUp.{no_stream, says_front, says_later, stream_there}
 
 -- a test of a list that finds a member holds of one, and of none where it finds none

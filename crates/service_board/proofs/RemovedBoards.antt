@@ -25,14 +25,16 @@ use Rattle.ca_machine.specs.Devices.{remove_plan}
 use Rattle.ca_machine.specs.Seats.{with_playheads}
 use Rattle.ca_machine.specs.State.{endpoint_numbers}
 use Rattle.period_engine.specs.declared.entry.StreamEntry.{StreamEntry}
-use Rattle.service_board.specs.Board.{book_state, playhead_of}
+use Rattle.service_book.specs.BookState.{book_state}
+use Rattle.service_book.specs.InOrder.{IsBook}
+use Rattle.service_book.specs.declared.book.Book.{Book}
+use Rattle.service_board.specs.Board.{playhead_of}
 use Rattle.service_board.specs.Closing.{Disconnects}
 use Rattle.service_board.specs.Does.{AnyData, Does}
-use Rattle.service_board.specs.InOrder.{InOrder, IsBook, IsOn, Seats, is_seat}
+use Rattle.service_board.specs.InOrder.{InOrder, IsOn, Seats, is_seat}
 use Rattle.service_board.specs.NamedEndpoints.{FindsNamed}
 use Rattle.service_board.specs.declared.board.Board.{Board}
 use Rattle.service_board.specs.declared.board.Seat.{Seat}
-use Rattle.service_board.specs.declared.book.Book.{Book}
 use Rattle.service_board.proofs.Disconnecting.{close_moves, disconnects_does, heads_stay, stage_after, stage_before}
 use Rattle.service_board.proofs.DisconnectedOrder.{disconnected_order, other_book}
 use Rattle.service_board.proofs.Doing.{not_asked}

@@ -14,7 +14,8 @@ use Rattle.ca_machine.specs.View.{AnswersBy, outside}
 use Rattle.period_engine.specs.declared.entry.StreamEntry.{StreamEntry}
 use Rattle.period_engine.specs.Agreement.{Agrees, AllAgree, data_after}
 use Rattle.period_engine.specs.Entries.{stream_of, stream_with, streams_of}
-use Rattle.service_board.specs.Board.{book_state, playhead_of, state_of}
+use Rattle.service_book.specs.BookState.{book_state}
+use Rattle.service_board.specs.Board.{playhead_of, state_of}
 use Rattle.service_board.specs.Does.{Does, Made, after_steps, channels_at, store_at}
 use Rattle.service_board.specs.Gains.{HasSameStream, HasSameStreams}
 use Rattle.service_board.specs.declared.board.Board.{Board}

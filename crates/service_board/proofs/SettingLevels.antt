@@ -18,11 +18,12 @@ use Rattle.ca_machine.specs.declared.state.Client.{Client}
 use Rattle.ca_machine.specs.State.{is_client_of, live_clients}
 use Rattle.ca_machine.specs.Streams.{with_stream_level}
 use Rattle.period_engine.specs.declared.entry.StreamEntry.{StreamEntry}
-use Rattle.service_board.specs.InOrder.{Belongs, HasLevels, InOrder, IsBook, IsOwned}
+use Rattle.service_book.specs.InOrder.{HasLevels, IsBook, IsOwned}
+use Rattle.service_book.specs.declared.book.Book.{Book}
+use Rattle.service_board.specs.InOrder.{Belongs, InOrder}
 use Rattle.service_board.specs.Lookups.{FindsClient}
 use Rattle.service_board.specs.declared.board.Board.{Board}
 use Rattle.service_board.specs.declared.board.Seat.{Seat}
-use Rattle.service_board.specs.declared.book.Book.{Book}
 
 -- a board in order with another book of the same endpoints, to which its entries belong too
 rebooked : {D E : Type 0} (state : E → EndState) (b : Board D E) (book : Book) →

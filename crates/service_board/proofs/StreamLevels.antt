@@ -16,12 +16,12 @@ use Rattle.ca_machine.specs.Plan.{Outcome, answered, granted}
 use Rattle.ca_machine.specs.SharedRows.{with_stream}
 use Rattle.ca_machine.specs.Streams.{get_stream_level_plan, get_stream_level_rows, set_stream_level_plan, set_stream_level_rows, stream_level, with_stream_level}
 use Rattle.period_engine.specs.declared.entry.StreamEntry.{StreamEntry}
+use Rattle.service_book.proofs.Rows.{row_holds, row_passes}
 use Rattle.service_board.specs.Board.{state_of}
 use Rattle.service_board.specs.Does.{AnyData, Does}
 use Rattle.service_board.specs.declared.board.Board.{Board}
 use Rattle.service_board.proofs.EndpointCalls.{plain_tells}
 use Rattle.service_board.proofs.Granting.{book_does}
-use Rattle.service_board.proofs.Rows.{row_holds, row_passes}
 use Rattle.service_board.proofs.SettingLevels.{Named, leveled_at, leveled_items}
 use Rattle.service_board.proofs.StreamRows.{Opened, own_refused, stream_own}
 

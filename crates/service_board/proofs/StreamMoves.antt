@@ -32,13 +32,16 @@ use Rattle.period_engine.specs.declared.entry.StreamEntry.{StreamEntry}
 use Rattle.period_engine.specs.Agreement.{Agrees, AllAgree, data_after}
 use Rattle.period_engine.specs.Entries.{AreInOrder, IsRested, stream_of, stream_with, streams_of}
 use Rattle.period_engine.specs.SubSteps.{IsSameEntry}
-use Rattle.service_board.specs.Board.{book_state, playhead_of, state_of}
+use Rattle.service_book.specs.BookState.{book_state}
+use Rattle.service_board.specs.Board.{playhead_of, state_of}
 use Rattle.service_board.specs.Does.{Does, Made, after_steps, channels_at, store_at}
 use Rattle.ca_base.specs.declared.ids.EndpointNo.{EndpointNo}
-use Rattle.service_board.specs.InOrder.{IsOn, Belongs, InOrder, IsBook, Seats, gains_by, next_at}
+use Rattle.service_book.specs.InOrder.{IsBook}
+use Rattle.service_book.specs.Gains.{gains_by}
+use Rattle.service_book.specs.declared.book.Book.{Book}
+use Rattle.service_board.specs.InOrder.{IsOn, Belongs, InOrder, Seats, next_at}
 use Rattle.service_board.specs.declared.board.Board.{Board}
 use Rattle.service_board.specs.declared.board.Seat.{Seat}
-use Rattle.service_board.specs.declared.book.Book.{Book}
 use Rattle.service_board.proofs.Doing.{answers_refused}
 use Rattle.service_board.proofs.OneEntry.{IsSole, agrees_found, channels_found, made_only, only, only_here, sole_there, streams_set}
 use Rattle.service_board.proofs.Granting.{answers_granted}

@@ -18,12 +18,12 @@ use Rattle.ca_machine.specs.SharedRows.{stream_plan, with_stream}
 use Rattle.ca_machine.specs.View.{outside}
 use Rattle.period_engine.specs.declared.entry.StreamEntry.{StreamEntry}
 use Rattle.period_engine.specs.Entries.{stream_of}
+use Rattle.service_book.proofs.Finding.{first_later}
 use Rattle.service_board.specs.Board.{state_of}
 use Rattle.service_board.specs.Does.{Does, store_at}
 use Rattle.service_board.specs.Lookups.{FindsStream, Says, stream_call_rows}
 use Rattle.service_board.specs.declared.board.Board.{Board}
 use Rattle.service_board.proofs.Doing.{answers_refused, made_still, refused_does}
-use Rattle.service_board.proofs.Finding.{first_later}
 use Rattle.service_board.proofs.Granting.{Grants, answers_granted}
 use Rattle.service_board.proofs.LookingUp.{says_front}
 

@@ -21,13 +21,13 @@ use Rattle.ca_machine.specs.SharedRows.{control_rows}
 use Rattle.ca_machine.specs.Sessions.{enum_sessions_plan, get_session_plan, numbers_payload, session_payload, state_of_session, with_session}
 use Rattle.period_engine.specs.declared.entry.StreamEntry.{StreamEntry}
 use Rattle.period_engine.specs.Entries.{stream_of, streams_of}
+use Rattle.service_book.proofs.Finding.{found_at, none_at}
 use Rattle.service_board.specs.Board.{state_of}
 use Rattle.service_board.specs.Does.{AnyData, Does}
 use Rattle.service_board.specs.Lookups.{Says}
 use Rattle.service_board.specs.declared.board.Board.{Board}
 use Rattle.service_board.proofs.Doing.{refused_does}
 use Rattle.service_board.proofs.EndpointCalls.{plain_tells}
-use Rattle.service_board.proofs.Finding.{found_at, none_at}
 use Rattle.service_board.proofs.Kept.{any_mapped}
 use Rattle.service_board.proofs.LookingUp.{says_front, says_later}
 

@@ -1,5 +1,5 @@
 -- What is told of an event, and the board after it.
-use Rattle.std.proofs.Common.{◌≡◌, ◌≤◌, List, [], ◌∷◌, ◌++◌, length, map, refl, sym, ap, ap₂, ◌∙◌, subst}
+use Rattle.std.proofs.Common.{◌≡◌, ◌≤◌, List, [], ◌∷◌, length, map, refl, sym, ap, ap₂, ◌∙◌, subst}
 use Rattle.std.specs.Global.{Vec}
 use Rattle.std.specs.List.{AllZip}
 use Rattle.std.specs.Vec.{vec_capacity}
@@ -18,12 +18,6 @@ mapped_zip f [] [] h = refl
 mapped_zip {X} f (x ∷ xs) (y ∷ ys) h = ap₂ (λ (z : X) (zs : List X). z ∷ zs) h.0 (mapped_zip f xs ys h.1)
 mapped_zip f [] (y ∷ ys) h = absurd h
 mapped_zip f (x ∷ xs) [] h = absurd h
-
--- what stands in a list after three were added to none
-pub three_added : {X : Type 0} (xs ys zs none one two three : List X) → none ≡ [] → one ≡ none ++ xs →
-    two ≡ one ++ ys → three ≡ two ++ zs → three ≡ xs ++ ys ++ zs
-three_added xs ys zs none one two three a b c d =
-    d ∙ ap (λ ns. ns ++ zs) (c ∙ ap (λ ns. ns ++ ys) (b ∙ ap (λ ns. ns ++ xs) a))
 
 -- a board with other notices and drafts
 abbrev pub with_told : {D E : Type 0} → Vec Notices → Vec Notice → Board D E → Board D E

@@ -14,43 +14,19 @@ use Rattle.ca_stage.specs.Moves.{stream_at}
 use Rattle.ca_stage.specs.Tally.{Tally}
 use Rattle.ca_stage.proofs.Lists.{found_passes}
 use Rattle.ca_machine.specs.declared.state.Client.{Client}
-use Rattle.device_registry.specs.declared.endpoint.Endpoint.{Endpoint}
 use Rattle.ca_machine.specs.State.{client_of, is_client_of}
 use Rattle.device_registry.specs.Endpoints.{is_endpoint}
 use Rattle.ca_machine.specs.SharedRows.{client_rows, if_stream, invalidated_rows, is_inactive}
 use Rattle.ca_machine.specs.Streams.{endpoint_rows}
 use Rattle.period_engine.specs.declared.entry.StreamEntry.{StreamEntry}
 use Rattle.period_engine.specs.Entries.{stream_of}
+use Rattle.service_book.specs.Lookups.{IsActiveAt, LacksActive}
+use Rattle.service_book.specs.declared.book.Book.{Book}
+use Rattle.service_book.proofs.Finding.{find_mapped, found_at, none_at}
 use Rattle.service_board.specs.Board.{state_of}
-use Rattle.service_board.specs.Lookups.{FindsEndpoint, IsActiveAt, LacksActive, Says, is_disconnected, is_entry_of}
+use Rattle.service_board.specs.Lookups.{FindsEndpoint, Says, is_disconnected, is_entry_of}
 use Rattle.service_board.specs.declared.board.Board.{Board}
-use Rattle.service_board.specs.declared.book.Book.{Book}
-use Rattle.service_board.proofs.Finding.{FoundAt, find_mapped, found_at, none_at}
 use Rattle.service_board.proofs.LookingUp.{says_front}
-
--- the endpoint at a place, as it is read there
-module _ (book : Book) (number at : ℕ) (e : Endpoint)
-    (there : Some at ≡ position (is_endpoint number) book.registry.list)
-    (read : e ≡ get_or book.registry.list at e) where
-  read_is : (f : FoundAt (is_endpoint number) book.registry.list at) → f.member ≡ e
-  read_is f = sym (get_or_from_slice_get book.registry.list at f.member e f.here) ∙ sym read
-
-  pub active_there : e.state ≡ STATE_ACTIVE → IsActiveAt number book at
-  active_there active =
-      let f = found_at (is_endpoint number) book.registry.list at there in
-      record {
-        within = f.within;
-        endpoint = f.member;
-        here = f.here;
-        found = f.found;
-        number_is = eqb-true f.member.no.0 number f.passes;
-        active = ap (λ x. x.state) (read_is f) ∙ active;
-      }
-
-  pub inactive_there : is_inactive (Some e) ≡ true → LacksActive number book
-  inactive_there other =
-      let f = found_at (is_endpoint number) book.registry.list at there in
-      ap is_inactive (f.found ∙ ap (λ x. Some x) (read_is f)) ∙ other
 
 -- the gate of a client's entry, as it is read by its place
 pub disconnected_there : {E : Type 0} (client : ℕ) (entries : List (StreamEntry E)) (at : ℕ) (e : StreamEntry E) →

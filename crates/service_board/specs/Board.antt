@@ -5,30 +5,13 @@ use Rattle.ca_stage.specs.Tally.{Tally}
 use Rattle.ca_machine.specs.State.{State}
 use Rattle.period_engine.specs.declared.entry.StreamEntry.{StreamEntry}
 use Rattle.period_engine.specs.Entries.{streams_of}
+use Rattle.service_book.specs.BookState.{book_state}
 use Rattle.service_board.specs.declared.board.Seat.{Seat}
 use Rattle.service_board.specs.declared.board.Board.{Board}
-use Rattle.service_board.specs.declared.book.Book.{Book}
 
 -- the playhead of a seat
 abbrev pub playhead_of : Seat → Playhead
 playhead_of s = record { number = s.endpoint.0; next = s.next }
-
--- the state of a book, with a stage and a tally
-abbrev pub book_state : Book → Stage → Tally → State
-book_state book stage tally = record {
-  stage = stage;
-  tally = tally;
-  connections = book.connections.items;
-  clients = book.clients.items;
-  endpoints = book.registry.list;
-  sessions = book.sessions.list;
-  choices = book.choices;
-  notices = book.notices.items;
-  is_shut = book.is_shut;
-  last_endpoint = book.registry.last;
-  clients_made = book.clients_made;
-  sessions_made = book.sessions.made;
-}
 
 -- the stage of seats and entries, with the data of each client's stream
 abbrev pub stage_with : {E : Type 0} → (ℕ → BufferData) → List Seat → List (StreamEntry E) → Stage

@@ -3,8 +3,9 @@ use Rattle.std.specs.Prelude.{◌≡◌, ℕ, ◌+◌, ◌≤◌, Some, None, sl
 use Rattle.std.specs.List.{find}
 use Rattle.ca_base.specs.declared.limits.TheConstants.{MAX_COUNT}
 use Rattle.ca_machine.specs.Periods.{period_frames, period_plan}
+use Rattle.service_book.specs.Lookups.{IsActiveAt}
 use Rattle.service_board.specs.InOrder.{Seats, is_seat}
-use Rattle.service_board.specs.Lookups.{IsActiveAt, Says}
+use Rattle.service_board.specs.Lookups.{Says}
 use Rattle.service_board.specs.declared.board.Board.{Board}
 use Rattle.service_board.specs.declared.board.Seat.{Seat}
 

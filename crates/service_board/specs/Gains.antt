@@ -6,9 +6,9 @@ use Rattle.volume_stack.specs.Scaling.{unit_gain}
 use Rattle.session_manager.specs.Sessions.{session_at}
 use Rattle.ca_machine.specs.declared.state.Client.{Client}
 use Rattle.period_engine.specs.declared.entry.StreamEntry.{StreamEntry}
-use Rattle.service_board.specs.InOrder.{gains_by}
+use Rattle.service_book.specs.Gains.{gains_by}
+use Rattle.service_book.specs.declared.book.Book.{Book}
 use Rattle.service_board.specs.declared.board.Board.{Board}
-use Rattle.service_board.specs.declared.book.Book.{Book}
 
 -- an entry's client is live
 pub record HasClient {E : Type 0} (book : Book) (e : StreamEntry E) : Type 0 where

@@ -1,72 +1,27 @@
 -- What holds of a board between events (this project's own).
-use Rattle.std.specs.Prelude.{◌≡◌, ℕ, ◌*◌, ◌≤◌, ◌==◌, nat_eq, List, [], ◌∷◌, length, map, Bool, false, true}
-use Rattle.std.specs.Prelude.{Option, Some}
-use Rattle.std.specs.List.{All, AllZip, IsDistinct, find, list_any}
+use Rattle.std.specs.Prelude.{◌≡◌, ℕ, ◌*◌, ◌≤◌, ◌==◌, List, Bool, false}
+use Rattle.std.specs.Prelude.{Some}
+use Rattle.std.specs.List.{All, AllZip, find}
 use Rattle.std.specs.Option.{option_map_or}
 use Rattle.std.specs.Vec.{vec_capacity}
 use Rattle.ca_base.specs.declared.ids.Gate.TheVariants as gate
 use Rattle.ca_base.specs.declared.ids.StreamKind.TheVariants.{Render}
-use Rattle.ca_base.specs.declared.limits.TheConstants.{
-  CLIENTS,
-  CONNECTIONS,
-  ENDPOINTS,
-  MAX_CONNECTION_NAME,
-  MAX_COUNT,
-  MAX_LEVEL,
-  NOTICES,
-}
+use Rattle.ca_base.specs.declared.limits.TheConstants.{CLIENTS, ENDPOINTS, MAX_COUNT, NOTICES}
 use Rattle.wave_format.specs.Format.{IsValid}
 use Rattle.volume_stack.specs.Scaling.{unit_gain}
 use Rattle.buffer_ring.specs.declared.step.EndState.{EndState}
-use Rattle.ca_stage.specs.Order.{RisesFrom}
-use Rattle.session_manager.specs.declared.session.Session.{Session}
 use Rattle.session_manager.specs.Sessions.{session_at}
 use Rattle.ca_machine.specs.declared.state.Client.{Client}
-use Rattle.ca_machine.specs.declared.state.Connection.{Connection}
 use Rattle.device_registry.specs.declared.endpoint.Endpoint.{Endpoint}
-use Rattle.ca_machine.specs.State.{is_connection, live_clients}
 use Rattle.device_registry.specs.Endpoints.{is_endpoint}
-use Rattle.ca_machine.specs.Periods.{gain_in, period_frames}
+use Rattle.ca_machine.specs.Periods.{period_frames}
 use Rattle.period_engine.specs.declared.entry.StreamEntry.{StreamEntry}
 use Rattle.period_engine.specs.Entries.{AreInOrder, IsRested}
+use Rattle.service_book.specs.declared.book.Book.{Book}
+use Rattle.service_book.specs.InOrder.{IsBook}
+use Rattle.service_book.specs.Gains.{gains_by}
 use Rattle.service_board.specs.declared.board.Board.{Board}
 use Rattle.service_board.specs.declared.board.Seat.{Seat}
-use Rattle.service_board.specs.declared.book.Book.{Book}
-
--- the tables have the room of their limits, and there is one list of notices for each number of a connection
-pub record HasRooms (b : Book) : Type 0 where
-  pub connections : CONNECTIONS ≤ vec_capacity b.connections
-  pub clients : CLIENTS ≤ vec_capacity b.clients
-  pub notices : length b.notices.items ≡ CONNECTIONS
-
--- a connection has a number that there may be, and a name that fits
-pub record IsOpen (c : Connection) : Type 0 where
-  pub least : 1 ≤ c.conn.0
-  pub most : c.conn.0 ≤ CONNECTIONS
-  pub name : length c.name ≤ MAX_CONNECTION_NAME
-
--- levels of channels are in range
-abbrev pub HasLevels : Client → Type 0
-HasLevels c = All (λ level. level ≤ MAX_LEVEL) c.levels
-
--- the connection of a client is one of these
-abbrev pub IsOwned : List Connection → Client → Type 0
-IsOwned connections c = list_any (is_connection c.conn.0) connections ≡ true
-
--- no two connections have one number, and those of clients are open; numbers of clients and endpoints rise, up to the
--- last one given; and counts and levels are in range
-pub record IsBook (b : Book) : Type 0 where
-  pub rooms : HasRooms b
-  pub apart : IsDistinct nat_eq (map (λ c. c.conn.0) b.connections.items)
-  pub opens : All IsOpen b.connections.items
-  pub clients : RisesFrom 0 (live_clients b.clients.items)
-  pub few_clients : length b.clients.items ≤ CLIENTS
-  pub made : All (λ c. c.client.0 ≤ b.clients_made) b.clients.items
-  pub clients_made : b.clients_made ≤ MAX_COUNT
-  pub endpoints : RisesFrom 0 (map (λ e. e.no.0) b.registry.list)
-  pub added : All (λ e. e.no.0 ≤ b.registry.last) b.registry.list
-  pub levels : All HasLevels b.clients.items
-  pub owned : All (IsOwned b.connections.items) b.clients.items
 
 -- a seat is that of an endpoint: its next place is in range, and a period fits in its scratch
 pub record Seats (seat : Seat) (e : Endpoint) : Type 0 where
@@ -82,11 +37,6 @@ is_seat number s = s.endpoint.0 == number
 -- the next place of an endpoint's seat
 abbrev pub next_at : ℕ → List Seat → ℕ
 next_at number seats = option_map_or (λ s. s.next) (find (is_seat number) seats) 0
-
--- the gains of a stream's four channels, by its levels and its session
-abbrev pub gains_by : List ℕ → Option Session → List ℕ
-gains_by levels session =
-    gain_in levels session 0 ∷ gain_in levels session 1 ∷ gain_in levels session 2 ∷ gain_in levels session 3 ∷ []
 
 -- an endpoint is there with so many channels, and a position isn't beyond its next place
 pub record IsOn (number channels position : ℕ) (endpoints : List Endpoint) (seats : List Seat) : Type 0 where

@@ -10,12 +10,9 @@ use Rattle.buffer_ring.specs.declared.step.Step.TheVariants as step
 use Rattle.session_manager.specs.declared.session.Session.{Session}
 use Rattle.ca_machine.specs.declared.state.Client.{Client}
 use Rattle.period_engine.specs.declared.entry.StreamEntry.{StreamEntry}
+use Rattle.service_book.specs.Leaving.{is_live}
 use Rattle.service_board.specs.Does.{store_at}
 use Rattle.service_board.specs.declared.board.Board.{Board}
-
--- one of these clients has this number
-abbrev pub is_live : List Client → ℕ → Bool
-is_live clients number = list_any (λ c. c.client.0 == number) clients
 
 -- the entry is that of one of these clients
 abbrev pub is_of_live : {E : Type 0} → List Client → StreamEntry E → Bool

@@ -11,6 +11,5 @@ pub mod NamedEndpoints
 pub mod Due
 pub mod StreamCalls
 pub mod Leaving
-pub mod Formats
 pub mod Openings
 pub mod Telling

@@ -1,26 +1,23 @@
 -- What look-ups of a call find, and the rows that refuse it where they don't (this project's own).
-use Rattle.std.specs.Prelude.{◌≡◌, ℕ, ◌-◌, ◌<◌, ◌==◌, ◌++◌, List, length, Bool, true, false, not, Option, Some, None}
+use Rattle.std.specs.Prelude.{◌≡◌, ℕ, ◌-◌, ◌<◌, ◌==◌, ◌++◌, List, length, Bool, false, not, Option, Some, None}
 use Rattle.std.specs.Prelude.{slice_get}
 use Rattle.std.specs.List.{find}
 use Rattle.std.specs.Option.{option_map_or}
 use Rattle.ca_base.specs.declared.codes.Hr.{Hr}
 use Rattle.ca_base.specs.declared.ids.Gate.TheVariants as gate
-use Rattle.ca_base.specs.declared.values.TheConstants.{STATE_ACTIVE}
 use Rattle.ca_base.specs.Rows.{Row, first}
 use Rattle.ca_stage.specs.Stage.{BufferData, is_open_gate}
 use Rattle.ca_stage.specs.Moves.{stream_at}
 use Rattle.ca_stage.specs.Tally.{Tally}
 use Rattle.ca_machine.specs.declared.state.Client.{Client}
-use Rattle.device_registry.specs.declared.endpoint.Endpoint.{Endpoint}
 use Rattle.ca_machine.specs.State.{State, is_client_of}
-use Rattle.device_registry.specs.Endpoints.{is_endpoint}
-use Rattle.ca_machine.specs.SharedRows.{client_rows, connection_rows, control_rows, is_inactive, stream_rows}
+use Rattle.ca_machine.specs.SharedRows.{client_rows, connection_rows, control_rows, stream_rows}
 use Rattle.ca_machine.specs.Streams.{endpoint_rows}
 use Rattle.period_engine.specs.declared.entry.StreamEntry.{StreamEntry}
 use Rattle.period_engine.specs.Entries.{stream_of}
+use Rattle.service_book.specs.Lookups.{IsActiveAt}
 use Rattle.service_board.specs.Board.{state_of}
 use Rattle.service_board.specs.declared.board.Board.{Board}
-use Rattle.service_board.specs.declared.book.Book.{Book}
 
 -- what the rows of a call say on a board: the code of the first that holds, or that none does, whatever the data
 abbrev pub Says : {D E : Type 0} → Board D E → (State → List (Row Hr)) → Option Hr → Type 0
@@ -74,19 +71,6 @@ pub record FindsStream {D E : Type 0} (conn client : ℕ) (b : Board D E) (at : 
 abbrev pub is_disconnected : {E : Type 0} → ℕ → List (StreamEntry E) → Bool
 is_disconnected client entries =
     option_map_or (λ e. not (is_open_gate e.gate)) (find (is_entry_of client) entries) false
-
--- an endpoint isn't there, or isn't ACTIVE
-abbrev pub LacksActive : ℕ → Book → Type 0
-LacksActive number book = is_inactive (find (is_endpoint number) book.registry.list) ≡ true
-
--- at this place stands an endpoint, which is ACTIVE
-pub record IsActiveAt (number : ℕ) (book : Book) (at : ℕ) : Type 0 where
-  pub within : at < length book.registry.list
-  pub endpoint : Endpoint
-  pub here : slice_get book.registry.list at ≡ Some endpoint
-  pub found : find (is_endpoint number) book.registry.list ≡ Some endpoint
-  pub number_is : endpoint.no.0 ≡ number
-  pub active : endpoint.state ≡ STATE_ACTIVE
 
 -- at this place stands the endpoint of a call's client, which is ACTIVE; a stream of the client wasn't disconnected;
 -- and none of the rows of calls on what a client may open holds

@@ -1,83 +1,29 @@
 -- What an Initialize asks for and opens, as the code has it (this project's own).
-use Rattle.std.specs.Prelude.{◌≡◌, ℕ, ◌≤◌, ◌||◌, not, nat_lt, List, [], ◌∷◌, Bool, false, true, Option, Some, None}
-use Rattle.std.specs.Prelude.{if◌then◌else◌}
+use Rattle.std.specs.Prelude.{◌≡◌, ℕ, ◌≤◌, nat_lt, List, [], ◌∷◌, Bool, false, Option, Some, None}
 use Rattle.std.specs.List.{find, insert}
-use Rattle.ca_base.specs.declared.codes.Hr.{Hr}
-use Rattle.ca_base.specs.declared.codes.TheConstants.Hr as hr
 use Rattle.ca_base.specs.declared.ids.Dir.TheVariants as dir
 use Rattle.ca_base.specs.declared.ids.Gate.TheVariants as gate
 use Rattle.ca_base.specs.declared.ids.StreamKind.TheVariants as kind
-use Rattle.ca_base.specs.declared.ids.EndpointNo.{EndpointNo}
 use Rattle.ca_base.specs.declared.ids.SessionNo.{SessionNo}
 use Rattle.ca_base.specs.declared.limits.TheConstants.{MAX_STORE_WORDS, SHARED_PERIOD}
-use Rattle.ca_base.specs.declared.values.TheConstants.{SHARE_EXCLUSIVE}
-use Rattle.ca_base.specs.Rows.{Row, first}
-use Rattle.wave_format.specs.declared.format.Format.{Format}
-use Rattle.wave_format.specs.Format.{IsValid, frames_of_time, spelled}
+use Rattle.ca_base.specs.Rows.{first}
+use Rattle.wave_format.specs.Format.{frames_of_time}
 use Rattle.volume_stack.specs.Scaling.{unit_gain}
 use Rattle.buffer_ring.specs.declared.step.EndState.{EndState}
-use Rattle.session_manager.specs.declared.session.SessionKey.{SessionKey}
 use Rattle.session_manager.specs.Rows.{join_rows}
-use Rattle.session_manager.specs.Sessions.{joined, number_joined}
 use Rattle.ca_stage.specs.Stage.{BufferData, no_data}
 use Rattle.ca_machine.specs.declared.state.Client.{Client}
 use Rattle.device_registry.specs.declared.endpoint.Endpoint.{Endpoint}
 use Rattle.ca_machine.specs.declared.state.Connection.{Connection}
-use Rattle.ca_machine.specs.State.{State, is_client_of, is_connection}
+use Rattle.ca_machine.specs.State.{is_client_of, is_connection}
 use Rattle.device_registry.specs.Endpoints.{is_endpoint}
-use Rattle.ca_machine.specs.Plan.{Plan}
-use Rattle.ca_machine.specs.Streams.{
-  Opening,
-  has_other_flag,
-  initialize_plan,
-  initialize_rows,
-  is_cross_process,
-  is_faulty,
-  is_kept,
-  is_malformed,
-  is_too_long,
-  matches,
-  shared_buffer,
-}
+use Rattle.ca_machine.specs.Streams.{initialize_rows, shared_buffer}
 use Rattle.period_engine.specs.declared.entry.StreamEntry.{StreamEntry}
+use Rattle.service_book.specs.declared.opening.Opening.{Opening as Asked}
+use Rattle.service_book.specs.declared.opening.OpeningPlan.{OpeningPlan}
+use Rattle.service_book.specs.Openings.{key_by, arguments, HasFormat}
 use Rattle.service_board.specs.Lookups.{Says, is_entry_of}
 use Rattle.service_board.specs.declared.board.Board.{Board}
-use Rattle.service_board.specs.declared.book.Book.{Book}
-use Rattle.service_board.specs.declared.opening.Opening.{Opening as Asked}
-use Rattle.service_board.specs.declared.opening.OpeningPlan.{OpeningPlan}
-
--- the arguments of an Initialize, as the machine has them
-abbrev pub arguments : Asked → Opening
-arguments x = record {
-  share = x.share;
-  flags = x.flags;
-  duration = x.duration;
-  period = x.period;
-  format = x.format.now;
-  session = x.session.0;
-}
-
--- the share mode, flags or times are ones that there aren't
-abbrev pub argument_rows : Opening → List (Row Hr)
-argument_rows x = (
-  nat_lt SHARE_EXCLUSIVE x.share
-      || (has_other_flag x.flags || (is_too_long x.duration || is_too_long x.period)),
-  hr.E_INVALIDARG,
-)
-    ∷ []
-
--- the format isn't that of an endpoint with this one
-abbrev pub format_rows : Format → Opening → List (Row Hr)
-format_rows endpoint x =
-    (is_malformed x.format, hr.E_INVALIDARG)
-    ∷ (is_faulty x.format || not (matches endpoint (spelled x.format)), hr.UNSUPPORTED_FORMAT)
-    ∷ []
-
--- the format that was asked for, which the endpoint's matches
-pub record HasFormat (endpoint : Format) (x : Asked) (format : Format) : Type 0 where
-  pub spells : format ≡ spelled x.format.now
-  pub valid : IsValid format
-  pub channels : format.channels ≡ endpoint.channels
 
 -- the entry of a stream as it is opened
 abbrev pub new_entry : {E : Type 0} → Asked → OpeningPlan → SessionNo → E → StreamEntry E
@@ -106,17 +52,6 @@ new_entry x plan session store = record {
 abbrev pub is_above : {E : Type 0} → ℕ → StreamEntry E → Bool
 is_above client e = nat_lt client e.client.0
 
--- the table of an Initialize
-abbrev pub opening_plan : Asked → State → Plan
-opening_plan x st = initialize_plan st x.conn.0 x.client.0 (arguments x)
-
--- what names the session of a stream that a call of this connection opens on an endpoint
-abbrev pub key_by : Asked → Connection → EndpointNo → SessionKey
-key_by x c endpoint =
-    if is_cross_process x.flags
-    then record { endpoint = endpoint; process = 0; guid = x.session; name = 42 ∷ [] }
-    else record { endpoint = endpoint; process = c.process; guid = x.session; name = c.name }
-
 -- what an Initialize opens that no row but want of memory refuses: the client of the call, which has no stream yet, on
 -- its endpoint, which has the format; and what names the session, which its connection gives
 pub record Plans {D E : Type 0} (x : Asked) (b : Board D E) (plan : OpeningPlan) : Type 0 where
@@ -144,12 +79,6 @@ IsNewStore state cap store = state store ≡ record { cap = cap; dir = dir.Rende
 -- nothing was ever released for a client
 abbrev pub IsFresh : ℕ → (ℕ → BufferData) → Type 0
 IsFresh client datas = datas client ≡ no_data
-
--- a stream joins its session, which is a new one if there is none, and gains are to be computed
-pub record Joins (x : Asked) (plan : OpeningPlan) (old : Book) (session : SessionNo) (new : Book) : Type 0 where
-  pub number : session.0 ≡ number_joined plan.key old.sessions
-  pub sessions : new.sessions ≡ joined plan.key None (is_kept x.flags) plan.format.channels old.sessions
-  pub rest : new ≡ record old { sessions = new.sessions; levels_changed = true }
 
 -- the entries with that of a stream as it is opened, in the store that was given
 pub record Enters {E : Type 0} (x : Asked) (plan : OpeningPlan) (given : Option E) (old new : List (StreamEntry E))

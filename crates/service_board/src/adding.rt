@@ -1,7 +1,6 @@
 //! Add: an endpoint appears (IMMNotificationClient::OnDeviceAdded; the rest is this project's own).
 
-ghost use Rattle.std.specs.Prelude.{◌≡◌, ◌||◌, not, nat_le, nat_lt, IfErr, IfOk, OnOk, None, Ok, Some};
-ghost use Rattle.std.specs.Str.{is_utf8};
+ghost use Rattle.std.specs.Prelude.{◌≡◌, IfErr, IfOk, OnOk, None, Ok, Some};
 ghost use Rattle.wave_format.specs.Format.{format_at};
 ghost use Rattle.ca_machine.specs.Devices.{add_plan, add_rows};
 ghost use Rattle.reply_payload.specs.Answers.{code_of, payload_of};
@@ -9,8 +8,7 @@ ghost use Rattle.service_board.specs.Does.{AnyData, Does};
 ghost use Rattle.service_board.specs.InOrder.{InOrder};
 ghost use Rattle.service_board.specs.Lookups.{Says};
 
-use crate::periods::period_frames;
-use crate::{Board, Book, Seat};
+use crate::{Board, Seat};
 use buffer_ring::EngineSide;
 use ca_base::limits::ENDPOINTS;
 use ca_base::values::{FLOW_CAPTURE, STATE_ACTIVE};
@@ -19,26 +17,9 @@ use device_io::Devices;
 use device_registry::Endpoint;
 use period_engine::Block;
 use reply_payload::Payload;
+use service_book::period_frames;
 use std::alloc::Global;
 use wave_format::{Format, read_format};
-
-/// Whether bytes are a text in UTF-8.
-pub fn is_text(bytes: &[u8]) -> bool
-    ensures { result ≡ is_utf8 bytes.now }
-{
-    str::from_utf8(bytes).is_ok()
-}
-
-impl Book {
-    /// Whether an endpoint that is to be added has a number that isn't above all before it, no flow, or a name that is
-    /// no text.
-    fn is_wrong_add(&self, number: EndpointNo, flow: u8, name: &Text) -> bool
-        ensures { result ≡ (nat_le number.0 self.now.registry.last
-            || (nat_lt FLOW_CAPTURE flow || not (is_utf8 name.now))) }
-    {
-        number.0 <= self.registry.last() || flow > FLOW_CAPTURE || !is_text(name.as_bytes())
-    }
-}
 
 impl<D, E: EngineSide> Board<D, E> {
     /// Whether an endpoint may be added: its format, or the code of the first row that refuses it.

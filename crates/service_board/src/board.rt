@@ -3,12 +3,12 @@
 ghost use Rattle.std.specs.Prelude.{◌≡◌, IfErr, IfOk};
 ghost use Rattle.service_board.specs.New.{IsNewBoard};
 
-use crate::Book;
 use buffer_ring::EngineSide;
 use ca_base::limits::{CLIENTS, ENDPOINTS, NOTICES};
 use ca_base::{EndpointNo, NoMemory};
 use event_notices::Notice;
 use period_engine::{Block, StreamEntry};
+use service_book::Book;
 use std::alloc::Global;
 use step_notices::Noted;
 

@@ -1,73 +1,22 @@
 //! Connections and clients: Open and Activate (IMMDevice::Activate; the rest is this project's own).
 
-ghost use Rattle.std.specs.Prelude.{◌≡◌, ◌==◌, ◌&&◌, ◌||◌, not, nat_le, None};
+ghost use Rattle.std.specs.Prelude.{None};
 ghost use Rattle.std.specs.Result.{result_err};
-ghost use Rattle.std.specs.List.{list_all, list_any};
-ghost use Rattle.ca_base.specs.declared.limits.TheConstants.{CONNECTIONS};
-ghost use Rattle.ca_machine.specs.Clients.{
-  activate_plan,
-  activate_rows,
-  is_name,
-  is_name_byte,
-  is_role,
-  open_plan,
-  open_rows,
-};
-ghost use Rattle.ca_machine.specs.State.{is_connection};
+ghost use Rattle.ca_machine.specs.Clients.{activate_plan, activate_rows, open_plan, open_rows};
 ghost use Rattle.reply_payload.specs.Answers.{code_of, payload_of};
 ghost use Rattle.service_board.specs.Does.{AnyData, Does};
 ghost use Rattle.service_board.specs.InOrder.{InOrder};
 ghost use Rattle.service_board.specs.Lookups.{Says};
 
-use crate::{Board, Book};
+use crate::Board;
 use buffer_ring::EngineSide;
-use ca_base::limits::{CLIENTS, CONNECTIONS, MAX_CONNECTION_NAME, MAX_COUNT, MAX_LEVEL};
-use ca_base::values::{ROLE_COMMUNICATIONS, ROLE_NONE, STATE_ACTIVE};
+use ca_base::limits::{CLIENTS, MAX_COUNT, MAX_LEVEL};
+use ca_base::values::STATE_ACTIVE;
 use ca_base::{ClientNo, ConnNo, EndpointNo, Hr, Text};
 use ca_machine::{Client, Connection};
 use device_io::Devices;
 use reply_payload::Payload;
-
-fn is_name_byte(byte: u8) -> bool
-    ensures { result ≡ is_name_byte byte }
-{
-    byte.is_ascii_digit()
-        || byte.is_ascii_uppercase()
-        || byte.is_ascii_lowercase()
-        || matches!(byte, b'-' | b'.' | b'_')
-}
-
-fn has_name_bytes(name: &[u8]) -> bool
-    ensures { result ≡ list_all is_name_byte name.now }
-{
-    name.iter().all(|byte| is_name_byte(*byte))
-}
-
-/// Whether a connection may give this name: 1 to 64 ASCII letters, digits, dots, underscores and dashes.
-fn is_name(name: &[u8]) -> bool
-    ensures { result ≡ is_name name.now }
-{
-    !name.is_empty() && name.len() <= MAX_CONNECTION_NAME && has_name_bytes(name)
-}
-
-/// Whether this is a role (ERole), or none.
-fn is_role(role: u8) -> bool
-    ensures { result ≡ is_role role }
-{
-    role <= ROLE_COMMUNICATIONS || role == ROLE_NONE
-}
-
-impl Book {
-    /// Whether a connection that is to be opened has a wrong number, is open, or has no process or a wrong name.
-    fn is_wrong_open(&self, conn: ConnNo, process: u32, name: &Text) -> bool
-        ensures { result ≡ (not (nat_le 1 conn.0 && nat_le conn.0 CONNECTIONS)
-            || (list_any (is_connection conn.0) self.now.connections.items
-            || (process == 0 || not (is_name name.now)))) }
-    {
-        let in_range = conn.0 >= 1 && conn.0 <= CONNECTIONS;
-        !in_range || self.is_connected(conn) || process == 0 || !is_name(name.as_bytes())
-    }
-}
+use service_book::is_role;
 
 impl<D, E: EngineSide> Board<D, E> {
     /// Whether a connection may be opened: the code of the first row that refuses it.

@@ -3,18 +3,7 @@
 
 ghost use Rattle.std.specs.Prelude.{◌≡◌, IfErr, IfOk, None, Some, filter, not};
 ghost use Rattle.std.specs.Vec.{vec_capacity};
-ghost use Rattle.ca_machine.specs.Devices.{
-  is_wrong_choice,
-  leaves_active,
-  missing_rows,
-  remove_plan,
-  set_default_plan,
-  set_format_plan,
-  set_name_plan,
-  set_state_plan,
-  shutdown_plan,
-  with_name,
-};
+ghost use Rattle.ca_machine.specs.Devices.{missing_rows, remove_plan, set_default_plan, set_format_plan, set_name_plan, set_state_plan, shutdown_plan};
 ghost use Rattle.ca_machine.specs.Step.{device_plan};
 ghost use Rattle.reply_payload.specs.Answers.{code_of, payload_of};
 ghost use Rattle.service_board.specs.Does.{AnyData, Does};
@@ -22,19 +11,17 @@ ghost use Rattle.service_board.specs.InOrder.{InOrder, is_seat};
 ghost use Rattle.service_board.specs.Lookups.{Says};
 ghost use Rattle.service_board.specs.NamedEndpoints.{FindsNamed};
 
-use crate::adding::is_text;
 use crate::closing::disconnect;
-use crate::opening::matches;
-use crate::periods::period_frames;
 use crate::{Board, Seat};
 use buffer_ring::EngineSide;
-use ca_base::values::{FLOW_CAPTURE, ROLE_COMMUNICATIONS, STATE_ACTIVE};
 use ca_base::{EndpointNo, Hr, Reason, Text};
 use ca_model::DeviceEvent;
 use device_io::Devices;
-use device_registry::{Endpoint, flow_number};
 use period_engine::Block;
 use reply_payload::Payload;
+use service_book::{
+    is_text, is_wrong_choice, leaves_active, matches, period_frames, with_format, with_name,
+};
 use std::alloc::Global;
 use wave_format::{Format, read_format};
 
@@ -44,50 +31,6 @@ fn drop_seat(seats: &mut Vec<Seat>, e: EndpointNo)
     ensures room { vec_capacity seats.new ≡ vec_capacity seats.old }
 {
     seats.retain(|s| s.endpoint != e);
-}
-
-/// Whether an endpoint that would have this state leaves ACTIVE.
-fn leaves_active(e: &Endpoint, state: u32) -> bool
-    ensures { result ≡ leaves_active state e.now }
-{
-    e.state == STATE_ACTIVE && state != STATE_ACTIVE
-}
-
-/// Whether a flow isn't the endpoint's, or there is no such role.
-fn is_wrong_choice(e: &Endpoint, flow: u8, role: u8) -> bool
-    ensures { result ≡ is_wrong_choice flow role (Some e.now) }
-{
-    flow > FLOW_CAPTURE || role > ROLE_COMMUNICATIONS || flow_number(e.flow) != flow
-}
-
-/// An endpoint with another format.
-fn with_format(e: &Endpoint, format: Format) -> Endpoint
-    ensures { result ≡ record (e.now) { format = format } }
-{
-    Endpoint {
-        no: e.no,
-        flow: e.flow,
-        state: e.state,
-        format,
-        name: e.name,
-        allow: e.allow,
-        priority: e.priority,
-    }
-}
-
-/// An endpoint with another name.
-fn with_name(e: &Endpoint, name: &Text) -> Endpoint
-    ensures { result ≡ with_name name.now e.now }
-{
-    Endpoint {
-        no: e.no,
-        flow: e.flow,
-        state: e.state,
-        format: e.format,
-        name: *name,
-        allow: e.allow,
-        priority: e.priority,
-    }
 }
 
 impl<D, E: EngineSide> Board<D, E> {

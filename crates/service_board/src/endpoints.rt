@@ -1,29 +1,13 @@
 //! Look-ups of the endpoint that a client may use.
 
-ghost use Rattle.std.specs.Prelude.{◌≡◌, IfErr, IfOk, MatchOption, Some, None};
-ghost use Rattle.std.specs.List.{find};
-ghost use Rattle.device_registry.specs.Endpoints.{is_endpoint};
+ghost use Rattle.std.specs.Prelude.{◌≡◌, IfErr, IfOk, Some};
 ghost use Rattle.ca_machine.specs.Streams.{endpoint_rows};
 ghost use Rattle.service_board.specs.InOrder.{InOrder};
-ghost use Rattle.service_board.specs.Lookups.{FindsEndpoint, IsActiveAt, LacksActive, Says, is_disconnected};
+ghost use Rattle.service_board.specs.Lookups.{FindsEndpoint, Says, is_disconnected};
 
-use crate::{Board, Book};
+use crate::Board;
 use buffer_ring::EngineSide;
-use ca_base::values::STATE_ACTIVE;
-use ca_base::{ClientNo, ConnNo, EndpointNo, Gate, Hr};
-
-impl Book {
-    /// The place of an endpoint that is there and ACTIVE.
-    pub fn active_endpoint(&self, e: EndpointNo) -> Option<usize>
-        ensures { MatchOption result (LacksActive e.0 self.now) (IsActiveAt e.0 self.now) }
-    {
-        let at = self.endpoint_place(e)?;
-        if self.endpoint(at).state != STATE_ACTIVE {
-            return None;
-        }
-        Some(at)
-    }
-}
+use ca_base::{ClientNo, ConnNo, Gate, Hr};
 
 impl<D, E: EngineSide> Board<D, E> {
     /// Whether a client has a stream that was disconnected.

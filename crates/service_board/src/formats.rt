@@ -4,7 +4,6 @@ ghost use Rattle.std.specs.Prelude.{None};
 ghost use Rattle.ca_machine.specs.Streams.{get_device_period_plan, get_mix_format_plan, is_format_supported_plan};
 ghost use Rattle.reply_payload.specs.Answers.{code_of, payload_of};
 ghost use Rattle.service_board.specs.Does.{AnyData, Does};
-ghost use Rattle.service_board.specs.Formats.{TellsSupport};
 ghost use Rattle.service_board.specs.InOrder.{InOrder};
 
 use crate::Board;
@@ -14,28 +13,8 @@ use ca_base::values::SHARE_EXCLUSIVE;
 use ca_base::{ClientNo, ConnNo, Hr};
 use device_io::Devices;
 use reply_payload::Payload;
-use wave_format::{Format, read_format};
-
-/// What a shared stream of these bytes' format gets on an endpoint of this one: nothing more if the endpoint takes it,
-/// and the closest format, the endpoint's, if it doesn't. E_INVALIDARG if the bytes are no format at all.
-fn support(mix: &Format, bytes: &[u8]) -> Result<Payload, Hr>
-    ensures { TellsSupport result mix.now bytes.now }
-{
-    match read_format(bytes) {
-        Ok(format) => {
-            if format.channels == mix.channels && format.rate == mix.rate {
-                return Ok(Payload::Nothing);
-            }
-            Ok(Payload::Closest(*mix))
-        }
-        Err(fault) => {
-            if fault.0 <= 2 {
-                return Err(Hr::E_INVALIDARG);
-            }
-            Ok(Payload::Closest(*mix))
-        }
-    }
-}
+use service_book::support;
+use wave_format::Format;
 
 impl<D: Devices, E: EngineSide> Board<D, E> {
     /// IAudioClient::GetMixFormat: the endpoint's format.

@@ -2,17 +2,48 @@
 
 ghost use Rattle.std.specs.Prelude.{◌≡◌, [], IfErr, IfOk, IfSome, None, is_ok, is_some};
 ghost use Rattle.std.specs.List.{position, position_or_len};
+ghost use Rattle.wave_format.specs.Format.{IsValid};
 ghost use Rattle.reply_payload.specs.Answers.{code_of, payload_of};
+ghost use Rattle.service_book.specs.Openings.{opening_plan};
 ghost use Rattle.service_board.specs.Does.{AnyData, Does};
 ghost use Rattle.service_board.specs.InOrder.{InOrder};
-ghost use Rattle.service_board.specs.Openings.{Enters, IsFresh, IsNewStore, Plans, is_above, opening_plan};
+ghost use Rattle.service_board.specs.Openings.{Enters, IsFresh, IsNewStore, Plans, is_above, new_entry};
 
-use crate::opening::shared_buffer;
-use crate::{Board, Opening, OpeningPlan};
+use crate::Board;
 use buffer_ring::EngineSide;
-use ca_base::{ClientNo, Hr};
+use ca_base::limits::{MAX_LEVEL, SHARED_PERIOD};
+use ca_base::{ClientNo, Gate, Hr, SessionNo, StreamKind};
 use device_io::Devices;
+use period_engine::StreamEntry;
 use reply_payload::Payload;
+use service_book::{Opening, OpeningPlan, shared_buffer, shared_period};
+
+/// The entry of the stream that is opened, in a session, with its store.
+fn entry_of<E>(x: &Opening, plan: &OpeningPlan, session: SessionNo, store: E) -> StreamEntry<E>
+    requires { IsValid plan.now.format }
+    ensures { result ≡ new_entry x.now plan.now session store }
+{
+    StreamEntry {
+        client: x.client,
+        endpoint: plan.endpoint,
+        kind: StreamKind::Render,
+        exclusive: false,
+        event: false,
+        channels: plan.format.channels,
+        rate: plan.format.rate,
+        buffer: plan.buffer,
+        period: shared_period(plan.format.rate),
+        store,
+        room: plan.buffer,
+        latency: SHARED_PERIOD,
+        session,
+        gate: Gate::Open,
+        running: false,
+        picked: 0,
+        position: 0,
+        gains: [MAX_LEVEL; 4],
+    }
+}
 
 impl<D: Devices, E: EngineSide> Board<D, E> {
     /// The place of the first entry of a greater client number.
@@ -90,7 +121,7 @@ impl<D: Devices, E: EngineSide> Board<D, E> {
         };
         let session = self.book.join(x, plan);
         let at = self.new_place(x.client);
-        let entry = x.entry(plan, session, store);
+        let entry = entry_of(x, plan, session, store);
         match self.entries.insert(at, entry) {
             Ok(()) => Ok(Payload::Long(session.0)),
             Err(_) => unreachable!(),

@@ -1,34 +1,25 @@
 //! Clients that leave: Release and Hangup (this project's own). Their streams go with them, and sessions without one.
 
-ghost use Rattle.std.specs.Prelude.{◌≡◌, ◌-◌, ◌≤◌, ◌==◌, filter, length, not, slice_set, None};
+ghost use Rattle.std.specs.Prelude.{◌≡◌, ◌-◌, ◌==◌, None};
 ghost use Rattle.std.specs.List.{All, AllZip, list_any};
 ghost use Rattle.std.specs.Vec.{vec_capacity};
-ghost use Rattle.event_notices.specs.Notices.{no_notices};
 ghost use Rattle.session_manager.specs.Sessions.{remaining};
-ghost use Rattle.ca_machine.specs.Clients.{hangup_plan, is_client_on, release_plan};
-ghost use Rattle.ca_machine.specs.State.{is_client_of, is_connection};
+ghost use Rattle.ca_machine.specs.Clients.{hangup_plan, release_plan};
 ghost use Rattle.period_engine.specs.Entries.{IsRested};
 ghost use Rattle.reply_payload.specs.Answers.{code_of, payload_of};
 ghost use Rattle.service_board.specs.Does.{AnyData, Does};
 ghost use Rattle.service_board.specs.InOrder.{InOrder};
-ghost use Rattle.service_board.specs.Leaving.{AreClosed, Forgets, Keeps, Parts, is_in_use, is_live};
+ghost use Rattle.service_board.specs.Leaving.{AreClosed, Forgets, Keeps, Parts, is_in_use};
 
 use crate::Board;
 use buffer_ring::EngineSide;
 use ca_base::{ClientNo, ConnNo, Gate, Hr, Reason, SessionNo};
-use ca_machine::{Client, Connection};
+use ca_machine::Client;
 use device_io::Devices;
-use event_notices::NoticeQueue;
 use period_engine::StreamEntry;
 use reply_payload::Payload;
+use service_book::{drop_client, drop_clients, drop_connection, drop_notices, is_live};
 use session_manager::SessionBook;
-
-/// Whether one of these clients has this number.
-fn is_live(clients: &[Client], client: ClientNo) -> bool
-    ensures { result ≡ is_live clients.now client.0 }
-{
-    clients.iter().any(|c| c.client == client)
-}
 
 /// Closes the store of a stream that is none of these clients', if it is open.
 fn close_unless_live<E: EngineSide>(entry: &mut StreamEntry<E>, clients: &[Client])
@@ -79,39 +70,6 @@ fn drop_sessions<E>(sessions: &mut SessionBook, entries: &[StreamEntry<E>])
     ensures made { sessions.new.made ≡ sessions.old.made }
 {
     sessions.keep(|s| is_in_use(entries, s.no));
-}
-
-/// Takes a client of a connection away.
-fn drop_client(clients: &mut Vec<Client>, conn: ConnNo, client: ClientNo)
-    ensures left { clients.new.items ≡ filter (λ c. not (is_client_of conn.0 client.0 c)) clients.old.items }
-    ensures room { vec_capacity clients.new ≡ vec_capacity clients.old }
-{
-    clients.retain(|c| !(c.client == client && c.conn == conn));
-}
-
-/// Takes all clients of a connection away.
-fn drop_clients(clients: &mut Vec<Client>, conn: ConnNo)
-    ensures left { clients.new.items ≡ filter (λ c. not (is_client_on conn.0 c)) clients.old.items }
-    ensures room { vec_capacity clients.new ≡ vec_capacity clients.old }
-{
-    clients.retain(|c| c.conn != conn);
-}
-
-/// Takes a connection away.
-fn drop_connection(connections: &mut Vec<Connection>, conn: ConnNo)
-    ensures left { connections.new.items ≡ filter (λ c. not (is_connection conn.0 c)) connections.old.items }
-    ensures room { vec_capacity connections.new ≡ vec_capacity connections.old }
-{
-    connections.retain(|c| c.conn != conn);
-}
-
-/// Drops what a connection registered for, and the notices that it kept.
-fn drop_notices(all: &mut [NoticeQueue], conn: ConnNo)
-    requires least { 1 ≤ conn.0 }
-    requires most { conn.0 ≤ length all.old }
-    ensures { all.new ≡ slice_set all.old (conn.0 - 1) no_notices }
-{
-    all[conn.0 as usize - 1].clear();
 }
 
 impl<D, E: EngineSide> Board<D, E> {

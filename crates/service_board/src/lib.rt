@@ -3,7 +3,6 @@
 
 mod adding;
 mod board;
-mod book;
 mod calls;
 mod clients;
 mod closing;
@@ -17,7 +16,6 @@ mod leaving;
 mod levels;
 mod lookups;
 mod noting;
-mod opening;
 mod periods;
 mod plays;
 mod registrations;
@@ -28,5 +26,3 @@ mod streams;
 mod telling;
 
 pub use board::{Board, Seat};
-pub use book::Book;
-pub use opening::{Opening, OpeningPlan, shared_period};

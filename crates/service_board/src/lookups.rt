@@ -1,12 +1,10 @@
 //! Look-ups of a call: whom it names. A look-up that fails tells the code of the call's row.
 
-ghost use Rattle.std.specs.Prelude.{◌≡◌, ◌<◌, IfErr, IfOk, Some, None, length, slice_index_or};
+ghost use Rattle.std.specs.Prelude.{◌≡◌, ◌<◌, IfErr, IfOk, Some, None};
 ghost use Rattle.std.specs.Result.{result_err};
-ghost use Rattle.std.specs.List.{list_any, position};
+ghost use Rattle.std.specs.List.{position};
 ghost use Rattle.ca_machine.specs.SharedRows.{connection_rows, control_rows, shut_rows};
-ghost use Rattle.ca_machine.specs.State.{is_client_of, is_connection};
-ghost use Rattle.device_registry.specs.Endpoints.{is_endpoint};
-ghost use Rattle.service_board.specs.InOrder.{InOrder, IsBook};
+ghost use Rattle.service_board.specs.InOrder.{InOrder};
 ghost use Rattle.service_board.specs.Lookups.{FindsClient, FindsStream, Says};
 ghost use Rattle.service_board.specs.Lookups.{
   client_call_rows,
@@ -15,44 +13,11 @@ ghost use Rattle.service_board.specs.Lookups.{
   stream_call_rows,
 };
 
-use crate::search::{client_at, entry_at};
-use crate::{Board, Book};
+use crate::Board;
+use crate::search::entry_at;
 use buffer_ring::EngineSide;
-use ca_base::{ClientNo, ConnNo, EndpointNo, Hr};
+use ca_base::{ClientNo, ConnNo, Hr};
 use client_state::gate_refusal;
-use device_registry::Endpoint;
-
-impl Book {
-    /// Whether a connection is open.
-    pub fn is_connected(&self, conn: ConnNo) -> bool
-        ensures { result ≡ list_any (is_connection conn.0) self.now.connections.items }
-    {
-        self.connections.iter().any(|c| c.conn == conn)
-    }
-
-    /// The place of a live client of a connection.
-    pub fn client_place(&self, conn: ConnNo, client: ClientNo) -> Option<usize>
-        requires { IsBook self.now }
-        ensures { result ≡ position (is_client_of conn.0 client.0) self.now.clients.items }
-    {
-        client_at(&self.clients, conn, client)
-    }
-
-    /// The place of an endpoint.
-    pub fn endpoint_place(&self, e: EndpointNo) -> Option<usize>
-        ensures { result ≡ position (is_endpoint e.0) self.now.registry.list }
-    {
-        self.registry.place(e)
-    }
-
-    /// The endpoint at a place.
-    pub fn endpoint(&self, at: usize) -> &Endpoint
-        requires { at < length self.now.registry.list }
-        ensures { result.now ≡ slice_index_or self.now.registry.list at result.now }
-    {
-        &self.registry.endpoints()[at]
-    }
-}
 
 impl<D, E: EngineSide> Board<D, E> {
     /// The place of a client's entry.

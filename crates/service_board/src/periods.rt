@@ -1,7 +1,7 @@
 //! A period of an endpoint: what is due is played; or the device fails, and the endpoint with it.
 
 ghost use Rattle.std.specs.Prelude.{◌≡◌, IfErr, IfOk, None, Some, false};
-ghost use Rattle.ca_machine.specs.Periods.{period_frames, period_plan};
+ghost use Rattle.ca_machine.specs.Periods.{period_plan};
 ghost use Rattle.reply_payload.specs.Answers.{IsPeriod, code_of, payload_of};
 ghost use Rattle.service_board.specs.Does.{AnyData, Does};
 ghost use Rattle.service_board.specs.Due.{FindsDue};
@@ -12,24 +12,16 @@ ghost use Rattle.service_board.specs.Telling.{NotesFailure};
 use crate::Board;
 use crate::plays::{close_failed, play};
 use buffer_ring::EngineSide;
-use ca_base::limits::{MAX_COUNT, MAX_LEVEL, SHARED_PERIOD};
+use ca_base::limits::{MAX_COUNT, MAX_LEVEL};
 use ca_base::values::{STATE_ACTIVE, STATE_NOTPRESENT};
 use ca_base::{EndpointNo, Failed, Hr};
 use device_io::Devices;
-use device_registry::Endpoint;
 use period_engine::{StreamEntry, retire};
 use reply_payload::Payload;
-use wave_format::frames_of;
+use service_book::period_frames;
 
 /// The gain of each channel of an endpoint: none changes anything.
 const END_GAINS: [u32; 4] = [MAX_LEVEL; 4];
-
-/// The frames of an endpoint's period.
-pub fn period_frames(e: &Endpoint) -> u32
-    ensures { result ≡ period_frames e.now }
-{
-    frames_of(e.format.rate, SHARED_PERIOD) as u32
-}
 
 impl<D: Devices, E: EngineSide> Board<D, E> {
     /// The place of the endpoint whose period is due, and of its seat. The endpoint is ACTIVE, and the count of its

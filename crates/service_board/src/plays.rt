@@ -12,12 +12,13 @@ ghost use Rattle.service_board.specs.Closing.{IsClosable, closes_within};
 ghost use Rattle.service_board.specs.Plays.{IsPlayable, PicksAndSounds};
 ghost use Rattle.service_board.specs.Telling.{noted_with};
 
-use crate::Book;
 use crate::closing::close_all;
+use crate::noting::noted_of;
 use buffer_ring::EngineSide;
 use ca_base::{EndpointNo, Failed, Reason};
 use device_io::Devices;
 use period_engine::{Block, StreamEntry, pick, sound};
+use service_book::Book;
 use step_notices::Noted;
 
 /// Plays what is due in a period of endpoint `e`, of `p` frames, over all entries: it is picked, mixed and offered to
@@ -58,6 +59,6 @@ pub fn close_failed<E: EngineSide>(
     ensures turned { AllZip (Turned E.moves (closes_within Removal (Some e.0))) all.old all.new }
     ensures rested { All (IsRested E.state) all.new }
 {
-    *before = book.noted(all);
+    *before = noted_of(book, all);
     close_all(all, Some(e), Reason::Removal);
 }

@@ -1,10 +1,9 @@
 //! Control calls of a client's open stream (IAudioClient, IAudioClock).
 
-ghost use Rattle.std.specs.Prelude.{◌≡◌, ◌≤◌, ◌==◌, ◌&&◌, ◌||◌, not, None};
+ghost use Rattle.std.specs.Prelude.{◌≡◌, ◌≤◌, ◌==◌, ◌&&◌, None};
 ghost use Rattle.ca_base.specs.declared.ids.Gate.TheVariants as gate;
 ghost use Rattle.ca_machine.specs.Streams.{get_buffer_size_plan, get_stream_latency_plan, get_position_plan};
-ghost use Rattle.ca_machine.specs.Streams.{get_service_plan, is_service, start_plan, stop_plan, reset_plan};
-ghost use Rattle.ca_stage.specs.Stage.{is_render};
+ghost use Rattle.ca_machine.specs.Streams.{get_service_plan, start_plan, stop_plan, reset_plan};
 ghost use Rattle.period_engine.specs.Entries.{IsRested};
 ghost use Rattle.reply_payload.specs.Answers.{code_of, payload_of};
 ghost use Rattle.service_board.specs.Does.{AnyData, Does};
@@ -13,28 +12,11 @@ ghost use Rattle.service_board.specs.StreamCalls.{Empties, IsLeased};
 
 use crate::Board;
 use buffer_ring::EngineSide;
-use ca_base::{ClientNo, ConnNo, Hr, StreamKind};
+use ca_base::{ClientNo, ConnNo, Hr};
 use device_io::Devices;
 use period_engine::StreamEntry;
 use reply_payload::Payload;
-
-/// Whether there is a service of this number.
-fn is_service(service: u32) -> bool
-    ensures { result ≡ is_service service }
-{
-    1 <= service && service <= 7
-}
-
-/// Whether a service is one of streams of another kind: 1 renders, 2 captures.
-fn is_of_other_kind(service: u32, kind: StreamKind) -> bool
-    ensures { result ≡ (service == 1 && not (is_render kind) || service == 2 && is_render kind) }
-{
-    let renders = match kind {
-        StreamKind::Render => true,
-        StreamKind::Capture | StreamKind::Loopback => false,
-    };
-    service == 1 && !renders || service == 2 && renders
-}
+use service_book::{is_of_other_kind, is_service};
 
 /// Throws away what is pending in a stream's store, and its position. Whether there was something to throw away.
 fn empty<E: EngineSide>(entry: &mut StreamEntry<E>) -> bool

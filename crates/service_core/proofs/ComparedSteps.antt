@@ -14,7 +14,7 @@ use Rattle.ca_machine.specs.Plan.{Answer}
 use Rattle.ca_machine.specs.Notices.{event_notices, made, noted}
 use Rattle.ca_machine.specs.Step.{call_tells, plan, tells}
 use Rattle.ca_machine.specs.View.{MachineView}
-use Rattle.service_board.specs.Telling.{step_notices}
+use Rattle.service_book.specs.Telling.{step_notices}
 use Rattle.service_core.specs.Service.{AnswersPlan, AnswersStep}
 use Rattle.service_core.specs.Telling.{IsNoPeriod, after_telling, call_telling, telling_of}
 use Rattle.service_core.specs.declared.telling.Telling.TheVariants as telling

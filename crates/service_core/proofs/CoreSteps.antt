@@ -24,7 +24,8 @@ use Rattle.ca_machine.specs.View.{AnswersBy, outside}
 use Rattle.period_engine.specs.declared.entry.StreamEntry.{StreamEntry}
 use Rattle.period_engine.specs.Entries.{AreInOrder, stream_with, stream_of, streams_of}
 use Rattle.period_engine.specs.Agreement.{Agrees, AllAgree, data_after}
-use Rattle.service_board.specs.Board.{state_of, book_state, playhead_of}
+use Rattle.service_book.specs.BookState.{book_state}
+use Rattle.service_board.specs.Board.{state_of, playhead_of}
 use Rattle.service_board.specs.Does.{Does, Made, Answered, after_steps, store_at, channels_at}
 use Rattle.service_board.specs.Lookups.{is_entry_of}
 use Rattle.service_board.specs.declared.board.Board.{Board}

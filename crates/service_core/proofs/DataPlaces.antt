@@ -9,7 +9,7 @@ use Rattle.ca_machine.specs.Data.{data_rows}
 use Rattle.service_board.specs.Lookups.{Says, client_call_rows, is_entry_of}
 use Rattle.service_board.specs.declared.board.Board.{Board}
 use Rattle.service_core.specs.DataCalls.{FindsEntry, RefusesData}
-use Rattle.service_board.proofs.Finding.{found_at, none_at}
+use Rattle.service_book.proofs.Finding.{found_at, none_at}
 use Rattle.service_board.proofs.LookingUp.{no_stream, says_front, says_later, stream_there}
 
 pub refuses_data : {D E : Type 0} (b : Board D E) (conn client : ℕ) (code : Hr) →

@@ -21,15 +21,16 @@ use Rattle.ca_machine.specs.Plan.Asked.{nothing}
 use Rattle.ca_machine.specs.View.{AnswersBy, Outside, outside}
 use Rattle.period_engine.specs.declared.entry.StreamEntry.{StreamEntry}
 use Rattle.period_engine.specs.Entries.{stream_with, stream_of, streams_of}
-use Rattle.service_board.specs.Board.{book_state, playhead_of}
+use Rattle.service_book.specs.BookState.{book_state}
+use Rattle.service_board.specs.Board.{playhead_of}
 use Rattle.service_board.specs.Lookups.{client_call_rows}
 use Rattle.service_board.specs.declared.board.Board.{Board}
 use Rattle.service_core.specs.Core.{Goes, core_data, core_datas, core_state}
 use Rattle.service_core.specs.DataCalls.{FindsEntry, RefusesData, all_data_rows}
 use Rattle.service_core.specs.declared.both_ends.BothEnds.{BothEnds}
+use Rattle.service_book.proofs.Finding.{first_later}
 use Rattle.service_board.proofs.Doing.{answers_refused}
 use Rattle.service_board.proofs.Granting.{answers_granted}
-use Rattle.service_board.proofs.Finding.{first_later}
 use Rattle.service_board.proofs.OneEntry.{IsSole, here, later, streams_set}
 use Rattle.service_board.proofs.StreamMoves.{ChangesOne}
 

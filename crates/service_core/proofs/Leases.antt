@@ -9,7 +9,7 @@ use Rattle.period_engine.specs.declared.entry.StreamEntry.{StreamEntry}
 use Rattle.service_board.specs.Lookups.{is_entry_of}
 use Rattle.service_core.specs.Core.{core_data, core_datas}
 use Rattle.service_core.specs.declared.both_ends.BothEnds.{BothEnds}
-use Rattle.service_board.proofs.Finding.{found_at, none_at}
+use Rattle.service_book.proofs.Finding.{found_at, none_at}
 use Rattle.service_core.proofs.EntryData.{data_found}
 
 module _ {F : Type 0} (kept : F → Kept) (entries : List (StreamEntry (BothEnds F))) (client : ℕ) where

@@ -12,9 +12,9 @@ use Rattle.buffer_ring.specs.Kept.{Kept, state_of}
 use Rattle.client_state.specs.declared.side.ClientSide.{ClientSide}
 use Rattle.ca_stage.specs.Stage.{no_data}
 use Rattle.period_engine.specs.declared.entry.StreamEntry.{StreamEntry}
+use Rattle.service_book.specs.declared.opening.Opening.{Opening as Asked}
+use Rattle.service_book.specs.declared.opening.OpeningPlan.{OpeningPlan}
 use Rattle.service_board.specs.declared.board.Board.{Board}
-use Rattle.service_board.specs.declared.opening.Opening.{Opening as Asked}
-use Rattle.service_board.specs.declared.opening.OpeningPlan.{OpeningPlan}
 use Rattle.reply_payload.specs.declared.payload.Payload.{Payload}
 use Rattle.service_board.specs.Lookups.{is_entry_of}
 use Rattle.service_board.specs.Openings.{Enters, IsNewStore, new_entry}

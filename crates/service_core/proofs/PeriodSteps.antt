@@ -22,7 +22,8 @@ use Rattle.ca_machine.specs.View.{MachineView}
 use Rattle.reply_payload.specs.Answers.{IsPeriod, code_of, payload_of}
 use Rattle.reply_payload.specs.declared.payload.Payload.{Payload}
 use Rattle.reply_payload.specs.declared.payload.Payload.TheVariants as payload
-use Rattle.service_board.specs.Telling.{has_failed, step_notices}
+use Rattle.service_book.specs.Telling.{step_notices}
+use Rattle.service_board.specs.Telling.{has_failed}
 use Rattle.service_core.specs.Service.{AnswersPlan, AnswersStep}
 use Rattle.service_core.specs.Telling.{after_telling, call_telling, telling_of}
 use Rattle.service_core.specs.declared.telling.Telling.TheVariants as telling

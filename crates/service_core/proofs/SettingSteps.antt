@@ -23,7 +23,7 @@ use Rattle.ca_machine.specs.Notices.{made, noted, noted_session, setting_notices
 use Rattle.ca_machine.specs.Sessions.{set_session_plan}
 use Rattle.ca_machine.specs.Step.{call_plan, call_tells}
 use Rattle.ca_machine.specs.View.{MachineView}
-use Rattle.service_board.specs.Telling.{setting_notices_by}
+use Rattle.service_book.specs.Telling.{setting_notices_by}
 use Rattle.service_core.specs.Service.{AnswersPlan, AnswersStep}
 use Rattle.service_core.specs.Telling.{after_telling, call_telling}
 use Rattle.service_core.specs.declared.telling.Telling.TheVariants as telling

@@ -38,9 +38,9 @@ use Rattle.ca_machine.specs.View.{AnswersBy, outside}
 use Rattle.ca_machine.specs.Data.{side_of}
 use Rattle.period_engine.specs.declared.entry.StreamEntry.{StreamEntry}
 use Rattle.period_engine.specs.Entries.{stream_with}
+use Rattle.service_book.specs.declared.opening.OpeningPlan.{OpeningPlan}
 use Rattle.service_board.specs.Board.{state_of}
 use Rattle.service_board.specs.declared.board.Board.{Board}
-use Rattle.service_board.specs.declared.opening.OpeningPlan.{OpeningPlan}
 use Rattle.service_core.specs.Putting.{TookMore}
 use Rattle.service_core.specs.declared.both_ends.BothEnds.{BothEnds}
 use Rattle.service_core.specs.declared.pending.Streams.{Streams}

@@ -6,8 +6,8 @@ ghost use Rattle.ca_machine.specs.Devices.{shutdown_plan};
 ghost use Rattle.ca_machine.specs.Step.{call_plan, device_plan};
 ghost use Rattle.ca_machine.specs.Streams.{reset_plan};
 ghost use Rattle.reply_payload.specs.Answers.{code_of, payload_of};
+ghost use Rattle.service_book.specs.Openings.{opening_plan};
 ghost use Rattle.service_board.specs.Calls.{IsPlainCall, IsShortCall};
-ghost use Rattle.service_board.specs.Openings.{opening_plan};
 ghost use Rattle.service_core.specs.Service.{AnswersPlan};
 
 use crate::Core;
@@ -21,7 +21,7 @@ use ca_base::{ClientNo, ConnNo, Hr, Text};
 use ca_model::{Call, DeviceEvent};
 use device_io::Devices;
 use reply_payload::Payload;
-use service_board::Opening;
+use service_book::Opening;
 
 impl<D: Devices, F: FrameStore> Core<D, F> {
     /// A connection opens.

@@ -10,7 +10,7 @@ use crate::BothEnds;
 use buffer_ring::FrameStore;
 use ca_base::Dir;
 use client_state::ClientSide;
-use service_board::{OpeningPlan, shared_period};
+use service_book::{OpeningPlan, shared_period};
 use std::alloc::Global;
 
 /// The client's side of a stream that is opened: nothing was leased or released.

@@ -56,7 +56,7 @@ impl<D: Devices, F: FrameStore> Core<D, F> {
         let Event::Call { conn, call, .. } = ev else {
             unreachable!();
         };
-        let was = self.board.volume_of(session);
+        let was = self.board.book.volume_of(session);
         let code = self.answer_call(*conn, call, payload);
         self.tell_setting(is_granted(code), call, was);
         code

@@ -2,7 +2,8 @@
 
 ghost use Rattle.std.specs.Prelude.{◌≡◌, true};
 ghost use Rattle.ca_machine.specs.Notices.{noted};
-ghost use Rattle.service_board.specs.Telling.{has_failed, setting_notices_by, step_notices};
+ghost use Rattle.service_book.specs.Telling.{setting_notices_by, step_notices};
+ghost use Rattle.service_board.specs.Telling.{has_failed};
 ghost use Rattle.service_core.specs.Service.{IsCore, core_view};
 ghost use Rattle.service_core.specs.Telling.{after_telling, call_telling, telling_of};
 ghost use Rattle.service_core.specs.declared.tally.Tally.{Tally as Counts};

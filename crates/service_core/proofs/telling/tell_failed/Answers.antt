@@ -1,5 +1,5 @@
 use Rattle.ca_machine.specs.Notices.{noted}
-use Rattle.service_board.specs.Telling.{step_notices}
+use Rattle.service_book.specs.Telling.{step_notices}
 use Rattle.service_core.specs.Core.{core_datas, core_state}
 use Rattle.service_core.specs.Service.{tally_of}
 use Rattle.service_core.proofs.TellingBoards.{told_view}

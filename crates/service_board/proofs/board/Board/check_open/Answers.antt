@@ -2,9 +2,9 @@ use Rattle.std.proofs.Common.{None, Some, refl, sym}
 use Rattle.std.proofs.lemmas.Result.{err_from_is_err_and}
 use Rattle.ca_base.specs.declared.codes.TheConstants.Hr as hr
 use Rattle.ca_machine.specs.SharedRows.{shut_rows}
+use Rattle.service_book.proofs.Rows.{row_holds, row_passes}
 use Rattle.service_board.proofs.Connecting.{own_open_rows}
 use Rattle.service_board.proofs.LookingUp.{says_front, says_later}
-use Rattle.service_board.proofs.Rows.{row_holds, row_passes}
 use Rattle.service_board.proofs.board.Board.check_open.Goals as goal
 
 pub returns-in_err-runs : goal.returns-in_err-runs

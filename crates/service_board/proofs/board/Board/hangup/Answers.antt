@@ -10,9 +10,9 @@ use Rattle.ca_stage.specs.Tally.{tally_after}
 use Rattle.ca_machine.specs.declared.state.Connection.{Connection}
 use Rattle.ca_machine.specs.State.{is_connection}
 use Rattle.ca_machine.specs.Clients.{closes, hangup_plan, is_client_on}
+use Rattle.service_book.specs.InOrder.{IsOpen, IsOwned}
 use Rattle.service_board.specs.Does.{AnyData}
 use Rattle.service_board.specs.declared.board.Board.{Board}
-use Rattle.service_board.specs.InOrder.{IsOpen, IsOwned}
 use Rattle.service_board.proofs.Doing.{refused_does}
 use Rattle.service_board.proofs.Granting.{granted_does}
 use Rattle.service_board.proofs.LeavingState.{are_closed, leaving_made, leaving_steps, none_closed, state_left}

@@ -43,8 +43,8 @@ returns-clause-does g c =
     let entries = c.args.self.now.entries.items in
     let splits = place_splits client 0 entries c.requires.order.order c.requires.planned.fresh in
     let items = c.in-Ok.ensures.items
-    ∙ ap (λ at. insert entries at c.entry-entry.result) c.new_place-at.ensures
-    ∙ ap (insert entries (position_or_len (is_above client) entries)) c.entry-entry.ensures in
+    ∙ ap (λ at. insert entries at c.entry_of-entry.result) c.new_place-at.ensures
+    ∙ ap (insert entries (position_or_len (is_above client) entries)) c.entry_of-entry.ensures in
     opened_does c.args.x.now c.args.self.now c.args.plan.now c.requires.planned g.D.Devices.faults g.D.Devices.told
     g.E.EngineSide.moves g.met.E.EngineSide.none c.args.store (position_or_len (is_above client) entries)
     c.join-session.result c.in-Some.store _ c.in-Some.is refl refl c.join-session.ensures splits items
@@ -55,8 +55,8 @@ returns-clause-order g c =
     let entries = c.args.self.now.entries.items in
     let splits = place_splits client 0 entries c.requires.order.order c.requires.planned.fresh in
     let items = c.in-Ok.ensures.items
-    ∙ ap (λ at. insert entries at c.entry-entry.result) c.new_place-at.ensures
-    ∙ ap (insert entries (position_or_len (is_above client) entries)) c.entry-entry.ensures in
+    ∙ ap (λ at. insert entries at c.entry_of-entry.result) c.new_place-at.ensures
+    ∙ ap (insert entries (position_or_len (is_above client) entries)) c.entry_of-entry.ensures in
     opened_order g.E.EngineSide.state c.args.x.now c.args.self.now c.args.plan.now c.requires.planned
     c.requires.order (position_or_len (is_above client) entries) c.join-session.result c.in-Some.store splits _
     (subst (λ o. IfSome o (IsNewStore g.E.EngineSide.state c.args.plan.now.buffer)) c.in-Some.is c.requires.store)
@@ -72,6 +72,6 @@ returns-clause-enters g c =
       store = c.in-Some.store;
       given_is = c.in-Some.is;
       entries = c.in-Ok.ensures.items
-          ∙ ap (λ at. insert entries at c.entry-entry.result) c.new_place-at.ensures
-          ∙ ap (insert entries (position_or_len (is_above client) entries)) c.entry-entry.ensures;
+          ∙ ap (λ at. insert entries at c.entry_of-entry.result) c.new_place-at.ensures
+          ∙ ap (insert entries (position_or_len (is_above client) entries)) c.entry_of-entry.ensures;
     }

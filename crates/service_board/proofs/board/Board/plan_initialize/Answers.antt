@@ -4,7 +4,7 @@ use Rattle.ca_base.specs.declared.codes.TheConstants.Hr as hr
 use Rattle.ca_base.specs.Rows.{first}
 use Rattle.session_manager.specs.Rows.{join_rows}
 use Rattle.ca_machine.specs.State.{is_connection}
-use Rattle.service_board.proofs.Joining.{found_there}
+use Rattle.service_book.proofs.Joining.{found_there}
 use Rattle.service_board.proofs.Planning.{at_arguments, at_control, at_endpoint, at_format, at_later, at_session, at_stream, connected_says, format_says, no_entry, number_read, opening_refused, past_endpoint, past_five, past_format, past_later, past_session, past_stream, read_endpoint, session_says, shut_says, stream_refuses, there_read, unconnected_says, within}
 use Rattle.service_board.proofs.board.Board.plan_initialize.Goals as goal
 

@@ -5,8 +5,8 @@ use Rattle.ca_base.specs.declared.codes.TheConstants.Hr as hr
 use Rattle.ca_stage.specs.Tally.{tally_after}
 use Rattle.ca_machine.specs.State.{is_client_of}
 use Rattle.ca_machine.specs.Clients.{closes, release_plan}
+use Rattle.service_book.specs.InOrder.{IsOwned}
 use Rattle.service_board.specs.Does.{AnyData}
-use Rattle.service_board.specs.InOrder.{IsOwned}
 use Rattle.service_board.proofs.Doing.{refused_does}
 use Rattle.service_board.proofs.Granting.{granted_does}
 use Rattle.service_board.proofs.LeavingState.{are_closed, leaving_made, leaving_steps, none_closed, state_left}

@@ -4,7 +4,7 @@ use Rattle.std.proofs.lemmas.Result.{err_from_is_err_and}
 use Rattle.ca_base.specs.declared.ids.Reason.TheVariants.{Shutdown}
 use Rattle.ca_stage.specs.Tally.{tally_after}
 use Rattle.ca_machine.specs.Devices.{shutdown_plan}
-use Rattle.service_board.specs.Board.{book_state}
+use Rattle.service_book.specs.BookState.{book_state}
 use Rattle.service_board.specs.Does.{AnyData}
 use Rattle.service_board.proofs.Disconnecting.{close_moves, disconnects_does, stage_before, stage_moved}
 use Rattle.service_board.proofs.DisconnectedOrder.{disconnected_order, other_book}

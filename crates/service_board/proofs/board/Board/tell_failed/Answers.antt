@@ -1,7 +1,7 @@
 use Rattle.std.proofs.Common.{map, sym, ap, ◌∙◌, subst}
 use Rattle.event_notices.specs.Notices.{pushed_all}
+use Rattle.service_book.specs.Telling.{step_notices}
 use Rattle.service_board.specs.InOrder.{InOrder}
-use Rattle.service_board.specs.Telling.{step_notices}
 use Rattle.service_board.proofs.Tellings.{told_order}
 use Rattle.service_board.proofs.board.Board.tell_failed.Goals as goal
 

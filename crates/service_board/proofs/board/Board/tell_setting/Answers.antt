@@ -1,5 +1,6 @@
 use Rattle.std.proofs.Common.{map, option_to_list, ◌++◌, sym, ap, ◌∙◌, subst}
 use Rattle.event_notices.specs.Notices.{pushed_all}
+use Rattle.service_board.specs.Board.{stage_with}
 use Rattle.service_board.specs.InOrder.{InOrder}
 use Rattle.service_board.proofs.Tellings.{told_order}
 use Rattle.service_board.proofs.board.Board.tell_setting.Goals as goal
@@ -10,7 +11,8 @@ returns-clause-notices g c = λ datas tally.
     ∙ ap (λ ns. map (pushed_all ns) c.args.self.now.book.notices.items)
     (c.put_note.ensures.items
     ∙ ap (λ ns. ns ++ option_to_list c.setting_note-note.result) c.clear.ensures.items
-    ∙ c.setting_note-note.ensures datas tally)
+    ∙ c.setting_note-note.ensures
+    (stage_with datas c.args.self.now.seats.items c.args.self.now.entries.items) tally)
 
 pub returns-clause-order : goal.returns-clause-order
 returns-clause-order g c =

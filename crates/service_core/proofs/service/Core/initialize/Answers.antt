@@ -3,10 +3,11 @@ use Rattle.std.proofs.lemmas.Result.{err_from_is_err_and}
 use Rattle.ca_model.specs.declared.event.Call.TheVariants as call
 use Rattle.ca_model.specs.declared.event.Event.TheVariants as event
 use Rattle.ca_machine.specs.State.{State}
-use Rattle.service_board.specs.declared.opening.Opening.{Opening}
+use Rattle.service_book.specs.declared.opening.Opening.{Opening}
 use Rattle.reply_payload.specs.Answers.{code_of, payload_of}
+use Rattle.service_book.specs.Openings.{arguments, opening_plan}
 use Rattle.service_board.specs.Does.{AnyData}
-use Rattle.service_board.specs.Openings.{IsFresh, arguments, opening_plan}
+use Rattle.service_board.specs.Openings.{IsFresh}
 use Rattle.service_core.specs.Service.{AnswersPlan, tally_of}
 use Rattle.service_core.proofs.CoreAnswers.{answers_viewed, board_still}
 use Rattle.service_core.proofs.CoreCounts.{goes_still}

@@ -1,6 +1,7 @@
 use Rattle.std.proofs.Common.{◌≡◌, subst}
 use Rattle.ca_machine.specs.Notices.{noted, volume_at}
 use Rattle.ca_machine.specs.View.{MachineView}
+use Rattle.service_board.specs.Board.{stage_with}
 use Rattle.service_core.specs.Core.{core_datas}
 use Rattle.service_core.specs.Service.{tally_of}
 use Rattle.service_core.proofs.ApartNotes.{AreApart, notes_apart}
@@ -20,5 +21,6 @@ returns-clause-answers g c =
     (subst (λ (v : MachineView g.row.D.Denot). AreApart (noted v.state)) c.self.view_is
     (notes_apart kept g.F.EngineSide.state board tally c.self.invariant.order))
     (subst (λ (v : MachineView g.row.D.Denot). c.volume_of-was.result ≡ volume_at c.args.session.0 v.state)
-    c.self.view_is (c.volume_of-was.ensures (core_datas kept board.entries.items) tally))
+    c.self.view_is (c.volume_of-was.ensures
+    (stage_with (core_datas kept board.entries.items) board.seats.items board.entries.items) tally))
     c.answer_call-code.ensures.answers)

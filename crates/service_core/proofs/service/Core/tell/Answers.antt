@@ -1,7 +1,7 @@
 use Rattle.std.proofs.Common.{◌≡◌, true, subst}
 use Rattle.ca_machine.specs.Notices.{noted}
 use Rattle.ca_machine.specs.View.{MachineView}
-use Rattle.service_board.specs.Telling.{step_notices}
+use Rattle.service_book.specs.Telling.{step_notices}
 use Rattle.service_core.specs.Core.{core_datas, core_state}
 use Rattle.service_core.specs.Service.{core_view, tally_of}
 use Rattle.service_core.specs.Telling.{after_telling}

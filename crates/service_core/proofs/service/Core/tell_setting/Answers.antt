@@ -1,6 +1,6 @@
 use Rattle.std.proofs.Common.{◌≡◌, true, subst}
 use Rattle.ca_machine.specs.View.{MachineView}
-use Rattle.service_board.specs.Telling.{setting_notices_by}
+use Rattle.service_book.specs.Telling.{setting_notices_by}
 use Rattle.service_core.specs.Core.{core_datas, core_state}
 use Rattle.service_core.specs.Service.{core_view, tally_of}
 use Rattle.service_core.specs.Telling.{after_telling}

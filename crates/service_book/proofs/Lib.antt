@@ -1,0 +1,9 @@
+pub mod Finding
+pub mod Rows
+pub mod Halves
+pub mod Joining
+pub mod Supporting
+pub mod Texts
+pub mod ActiveEndpoints
+pub mod NotedDefaults
+pub mod AddedNotices

@@ -1,0 +1,9 @@
+pub mod BookState
+pub mod InOrder
+pub mod Gains
+pub mod Lookups
+pub mod Leaving
+pub mod New
+pub mod Formats
+pub mod Openings
+pub mod Telling

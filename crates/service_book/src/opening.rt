@@ -1,0 +1,184 @@
+//! What an Initialize asks for, and what it opens (IAudioClient::Initialize).
+
+ghost use Rattle.std.specs.Prelude.{◌≡◌, ◌≤◌, ◌==◌, ◌||◌, true, IfOk};
+ghost use Rattle.std.specs.Result.{result_err};
+ghost use Rattle.ca_base.specs.declared.limits.TheConstants.{MAX_STORE_WORDS};
+ghost use Rattle.ca_base.specs.Rows.{first};
+ghost use Rattle.wave_format.specs.Format.{frames_of_time, is_listed};
+ghost use Rattle.ca_machine.specs.Streams.{has_later_flag, has_other_flag, is_cross_process, is_kept, later_rows};
+ghost use Rattle.ca_machine.specs.Streams.{matches, shared_buffer};
+ghost use Rattle.service_book.specs.Openings.{HasFormat, argument_rows, arguments, format_rows, key_by};
+
+use ca_base::limits::{MAX_SHARED_BUFFER_SECONDS, MAX_TIME, SHARED_PERIOD};
+use ca_base::values::{
+    SHARE_EXCLUSIVE, STREAM_CROSSPROCESS, STREAM_EVENTCALLBACK, STREAM_LOOPBACK, STREAM_NOPERSIST,
+};
+use ca_base::{ClientNo, ConnNo, EndpointNo, Guid, Hr, Text};
+use ca_machine::Connection;
+use session_manager::SessionKey;
+use wave_format::{Format, frames_of, read_format};
+
+/// The lowest of the flags that have a meaning, and the first bit above them (AUDCLNT_STREAMFLAGS).
+const FIRST_FLAG: u32 = STREAM_CROSSPROCESS;
+
+const FLAGS_END: u32 = 2 * STREAM_NOPERSIST;
+
+/// The arguments of an Initialize, and the connection and the client that it names.
+#[derive(Clone, Copy)]
+pub struct Opening<'a> {
+    pub conn: ConnNo,
+    pub client: ClientNo,
+    /// AUDCLNT_SHAREMODE.
+    pub share: u32,
+    /// AUDCLNT_STREAMFLAGS.
+    pub flags: u32,
+    /// The duration of the buffer and the period, in units of 100 ns.
+    pub duration: u64,
+    pub period: u64,
+    /// The bytes of a WAVEFORMATEX.
+    pub format: &'a [u8],
+    pub session: Guid,
+}
+
+/// What an Initialize opens that no row but want of memory refuses.
+#[derive(Clone, Copy)]
+pub struct OpeningPlan {
+    /// The client's endpoint.
+    pub endpoint: EndpointNo,
+    pub format: Format,
+    /// The frames of the buffer, which are the words of its store.
+    pub buffer: u32,
+    /// What names the session that the stream joins.
+    pub key: SessionKey,
+}
+
+/// Whether flags of later parts of the service are set.
+fn has_later_flag(flags: u32) -> bool
+    ensures { result ≡ has_later_flag flags }
+{
+    flags / STREAM_LOOPBACK % (2 * STREAM_EVENTCALLBACK / STREAM_LOOPBACK) != 0
+}
+
+/// Whether processes share the session.
+fn is_cross_process(flags: u32) -> bool
+    ensures { result ≡ is_cross_process flags }
+{
+    flags / STREAM_CROSSPROCESS % 2 != 0
+}
+
+/// Whether the level of a session that is made is kept.
+fn is_kept(flags: u32) -> bool
+    ensures { result ≡ is_kept flags }
+{
+    flags / STREAM_NOPERSIST % 2 == 0
+}
+
+/// Whether other flags are set.
+fn has_other_flag(flags: u32) -> bool
+    ensures { result ≡ has_other_flag flags }
+{
+    flags % FIRST_FLAG != 0 || flags / FLAGS_END != 0
+}
+
+/// The frames of a shared stream's buffer, for a duration in units of 100 ns.
+pub fn shared_buffer(rate: u32, duration: u64) -> u32
+    requires { is_listed rate ≡ true }
+    ensures frames { result ≡ shared_buffer rate duration }
+    ensures some { 1 ≤ result }
+    ensures most { result ≤ MAX_STORE_WORDS }
+{
+    let least = 2 * frames_of(rate, SHARED_PERIOD);
+    let most = MAX_SHARED_BUFFER_SECONDS as u128 * rate as u128;
+    least.max(frames_of(rate, duration).min(most)) as u32
+}
+
+/// The frames of a shared period.
+pub fn shared_period(rate: u32) -> u32
+    requires { is_listed rate ≡ true }
+    ensures { result ≡ frames_of_time rate SHARED_PERIOD }
+{
+    frames_of(rate, SHARED_PERIOD) as u32
+}
+
+/// Whether formats have the same channels and rate.
+pub fn matches(a: &Format, b: &Format) -> bool
+    ensures { result ≡ matches a.now b.now }
+{
+    a.channels == b.channels && a.rate == b.rate
+}
+
+impl<'a> Opening<'a> {
+    /// Whether it asks for what comes with later parts of the service.
+    pub fn check_later(&self) -> Result<(), Hr>
+        ensures { first (later_rows (arguments self.now)) ≡ result_err result }
+    {
+        if self.share == SHARE_EXCLUSIVE || has_later_flag(self.flags) {
+            return Err(Hr::E_NOTIMPL);
+        }
+        Ok(())
+    }
+
+    /// Whether the share mode, the flags and the times are ones that there are.
+    pub fn check_arguments(&self) -> Result<(), Hr>
+        ensures { first (argument_rows (arguments self.now)) ≡ result_err result }
+    {
+        if self.share > SHARE_EXCLUSIVE
+            || has_other_flag(self.flags)
+            || self.duration > MAX_TIME
+            || self.period > MAX_TIME
+        {
+            return Err(Hr::E_INVALIDARG);
+        }
+        Ok(())
+    }
+
+    /// The format, which is to be the endpoint's.
+    pub fn format_for(&self, endpoint: &Format) -> Result<Format, Hr>
+        ensures says { first (format_rows endpoint.now (arguments self.now)) ≡ result_err result }
+        ensures format { IfOk result (HasFormat endpoint.now self.now) }
+    {
+        let format = match read_format(self.format) {
+            Ok(format) => format,
+            Err(fault) => {
+                return Err(if fault.0 <= 2 {
+                    Hr::E_INVALIDARG
+                } else {
+                    Hr::UNSUPPORTED_FORMAT
+                });
+            }
+        };
+        if !matches(endpoint, &format) {
+            return Err(Hr::UNSUPPORTED_FORMAT);
+        }
+        Ok(format)
+    }
+
+    /// What names the session that the stream joins, over the connection of the call and on the client's endpoint.
+    pub fn session_key(&self, connection: &Connection, endpoint: EndpointNo) -> SessionKey
+        ensures { result ≡ key_by self.now connection.now endpoint }
+    {
+        let guid = self.session;
+        if is_cross_process(self.flags) {
+            let name = Text::new(b"*");
+            return SessionKey {
+                endpoint,
+                process: 0,
+                guid,
+                name,
+            };
+        }
+        SessionKey {
+            endpoint,
+            process: connection.process,
+            guid,
+            name: connection.name,
+        }
+    }
+
+    /// Whether the level of a session that is made is kept.
+    pub fn is_kept(&self) -> bool
+        ensures { result ≡ is_kept self.now.flags }
+    {
+        is_kept(self.flags)
+    }
+}
