@@ -423,7 +423,7 @@ period endpoint=1
 
     def test_wrong_words(self):
         usage = ("usage: events spell SCRIPT | show [--events | EVENTS REPLIES FOLDER] | run SCRIPT [--program PATH]"
-                 " | --help\n")
+                 " [--input ENDPOINT=FILE]... [--captured CLIENT=FILE]... | --help\n")
         for words in ((), ("spell",), ("show", "file"), ("run", "x", "--program"), ("replay", "x")):
             with self.subTest(words):
                 self.assertEqual(self.ends(tool(*words), 2, usage), "")

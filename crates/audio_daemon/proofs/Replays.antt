@@ -1,10 +1,9 @@
 -- Answers of the machine as a desk are a run of the machine.
 use Rattle.std.proofs.Common.{◌≡◌, ℕ, List, [], ◌∷◌, ◌++◌, map, Option, Some, None, refl, sym, ap, subst, ◌∙◌}
 use Rattle.std.proofs.Common.{append-nil, inl, arith}
-use Rattle.std.specs.Option.{option_map}
 use Rattle.std.specs.Io.KnownBytes.{Appends, Consumes}
 use Rattle.std.proofs.lemmas.List.Concat.{flat_map-cons}
-use Rattle.device_io.specs.DeviceLog.{DeviceLog, add_all, add_written}
+use Rattle.device_io.specs.DeviceLog.{DeviceLog}
 use Rattle.ca_model.specs.declared.event.Event.{Event}
 use Rattle.ca_model.specs.declared.reply.Reply.{Reply}
 use Rattle.ca_model.specs.Spelling.IsIncomplete.{no_length}
@@ -21,13 +20,13 @@ use Rattle.ca_machine.specs.Plan.Answer.{
   keeper_failed,
 }
 use Rattle.ca_machine.specs.State.{State, empty_state}
-use Rattle.ca_machine.specs.Step.{Entry, IsRun, FaultsAlong, answers_of, output_of}
+use Rattle.ca_machine.specs.Step.{Entry, IsRun, FaultsAlong, answers_of}
 use Rattle.ca_machine.specs.Headline.{RunsHaveHeadline}
 use Rattle.event_loop.specs.Runs.{Runs}
 use Rattle.event_loop.specs.Ends.{moment, Ends, Reached, Writing}
 use Rattle.event_loop.specs.declared.ends.LoopEnd.{LoopEnd}
 use Rattle.event_loop.specs.declared.ends.LoopEnd.TheVariants as ends
-use Rattle.ca_machine.specs.View.{MachineView, AnswersEvent}
+use Rattle.ca_machine.specs.View.{MachineView, AnswersEvent, ToldAlong}
 use Rattle.audio_daemon.specs.Run.{EachReplies, Replayed}
 
 -- a count of faults along answers and then others
@@ -37,28 +36,11 @@ faults-append a b c (failed ∷ xs) ys first second = (first.0, first.1, faults-
 faults-append a b c (found ∷ xs) ys first second = faults-append a b c xs ys first second
 faults-append a b c (out_of_memory ∷ xs) ys first second = faults-append a b c xs ys first second
 faults-append a b c (took n ∷ xs) ys first second = faults-append a b c xs ys first second
-faults-append a b c (gave bs ∷ xs) ys first second = faults-append a b c xs ys first second
+faults-append a b c (gave e bs ∷ xs) ys first second = faults-append a b c xs ys first second
 faults-append a b c (loaded kept ∷ xs) ys first second = faults-append a b c xs ys first second
 faults-append a b c (stored ∷ xs) ys first second = faults-append a b c xs ys first second
 faults-append a b c (keeper_out_of_memory ∷ xs) ys first second = faults-append a b c xs ys first second
 faults-append a b c (keeper_failed ∷ xs) ys first second = faults-append a b c xs ys first second
-
--- what devices hold after pieces and then others
-add_all-append : (xs ys : List (ℕ × List ℕ)) (held : List DeviceLog) → add_all (xs ++ ys) held ≡ add_all ys (add_all xs held)
-add_all-append [] ys held = refl
-add_all-append (x ∷ xs) ys held = add_all-append xs ys (add_written x.0 x.1 held)
-
--- what devices tell after pieces and then others
-told-append : (xs ys : List (ℕ × List ℕ)) (a b c : Option (List DeviceLog)) → b ≡ option_map (add_all xs) a
-    → c ≡ option_map (add_all ys) b → c ≡ option_map (add_all (xs ++ ys)) a
-told-append xs ys None b c first second = second ∙ ap (option_map (add_all ys)) first
-told-append xs ys (Some held) b c first second =
-    second ∙ ap (option_map (add_all ys)) first ∙ ap (λ (h : List DeviceLog). Some h) (sym (add_all-append xs ys held))
-
--- of no pieces they tell what they told
-same_told : (told : Option (List DeviceLog)) → told ≡ option_map (add_all []) told
-same_told None = refl
-same_told (Some held) = refl
 
 -- what the answers of a desk are, from any state
 record Found {D : Type 0} (faults : D → ℕ) (told : D → Option (List DeviceLog)) (old : MachineView D)
@@ -67,7 +49,7 @@ record Found {D : Type 0} (faults : D → ℕ) (told : D → Option (List Device
   events_are : map (λ entry. entry.event) entries ≡ events
   run : IsRun old.state entries new.state
   replied : EachReplies entries replies
-  tells : told new.devices ≡ option_map (add_all (output_of entries)) (told old.devices)
+  tells : ToldAlong (told old.devices) entries (told new.devices)
   counts : FaultsAlong (faults old.devices) (answers_of entries) (faults new.devices)
 
 module _ {D : Type 0} (faults : D → ℕ) (told : D → Option (List DeviceLog)) where
@@ -77,14 +59,13 @@ module _ {D : Type 0} (faults : D → ℕ) (told : D → Option (List DeviceLog)
     events_are = refl;
     run = refl;
     replied = tt;
-    tells = same_told (told old.devices);
+    tells = refl;
     counts = refl;
   })
 
   one_more : (old mid new : MachineView D) (e : Event) (es : List Event) (r : Reply) (rs : List Reply)
       → AnswersEvent faults told old e r mid → Found faults told mid es rs new → Found faults told old (e ∷ es) (r ∷ rs) new
   one_more old mid new e es r rs first rest =
-      let output = flat_map-cons (λ (entry : Entry). entry.output) first.entry rest.entries in
       let answers = flat_map-cons (λ (entry : Entry). entry.answers) first.entry rest.entries in
       let before = faults old.devices in
       let here = faults mid.devices in
@@ -96,10 +77,11 @@ module _ {D : Type 0} (faults : D → ℕ) (told : D → Option (List DeviceLog)
             ∙ ap (λ (xs : List Event). e ∷ xs) rest.events_are;
         run = (mid.state, first.steps, rest.run);
         replied = (first.replies, rest.replied);
-        tells =
-            told-append first.entry.output (output_of rest.entries)
-            (told old.devices) (told mid.devices) (told new.devices) first.passes.tells rest.tells
-            ∙ ap (λ (ws : List (ℕ × List ℕ)). option_map (add_all ws) (told old.devices)) (sym output);
+        tells = (
+          first.passes.left,
+          first.passes.gives,
+          subst (λ t. ToldAlong t rest.entries (told new.devices)) first.passes.tells rest.tells,
+        );
         counts = subst (λ (xs : List Answer). FaultsAlong before xs after) (sym answers)
             (faults-append before here after first.entry.answers (answers_of rest.entries) first.passes.counts rest.counts);
       }
@@ -185,7 +167,7 @@ nothing_began faults told law left written devices = record {
       events_are = refl;
       run = refl;
       replied = tt;
-      tells = same_told (told devices);
+      tells = refl;
       counts = refl;
       headline = law [] empty_state refl;
     };

@@ -1,12 +1,12 @@
 -- What a run of the program came to (the words and the statuses are this project's own).
 use Rattle.std.specs.Prelude.{◌≡◌, ℕ, ◌==◌, ◌&&◌, not, List, [], ◌∷◌, map, codes, Bool, true, false, Option}
-use Rattle.std.specs.Option.{option_map}
 use Rattle.std.specs.Str.{bytes_eq}
-use Rattle.device_io.specs.DeviceLog.{DeviceLog, add_all}
+use Rattle.device_io.specs.DeviceLog.{DeviceLog}
 use Rattle.ca_model.specs.declared.event.Event.{Event}
 use Rattle.ca_model.specs.declared.reply.Reply.{Reply}
 use Rattle.ca_machine.specs.State.{State, empty_state}
-use Rattle.ca_machine.specs.Step.{Entry, IsRun, Replies, FaultsAlong, answers_of, output_of}
+use Rattle.ca_machine.specs.Step.{Entry, IsRun, Replies, FaultsAlong, answers_of}
+use Rattle.ca_machine.specs.View.{ToldAlong}
 use Rattle.ca_machine.specs.Headline.{Headline}
 use Rattle.event_loop.specs.Ends.{Moment, Ends}
 use Rattle.event_loop.specs.declared.ends.LoopEnd.{LoopEnd}
@@ -34,8 +34,8 @@ EachReplies [] (r ∷ rs) = ⊥
 EachReplies (entry ∷ entries) [] = ⊥
 
 -- The events were answered by a run of the one-thread machine from its empty state: each reply is its entry's, the devices
--- tell what they told before and then the machine's output, their count of faults rose as the machine's answers say, and
--- the headline holds.
+-- gave what the machine's answers say and took its output, entry by entry, their count of faults rose as the machine's
+-- answers say, and the headline holds.
 pub record Replayed {D : Type 0} (faults : D → ℕ) (told : D → Option (List DeviceLog)) (old : D)
     (events : List Event) (replies : List Reply) (new : D) : Type 0 where
   pub entries : List Entry
@@ -43,7 +43,7 @@ pub record Replayed {D : Type 0} (faults : D → ℕ) (told : D → Option (List
   pub events_are : map (λ entry. entry.event) entries ≡ events
   pub run : IsRun empty_state entries state
   pub replied : EachReplies entries replies
-  pub tells : told new ≡ option_map (add_all (output_of entries)) (told old)
+  pub tells : ToldAlong (told old) entries (told new)
   pub counts : FaultsAlong (faults old) (answers_of entries) (faults new)
   pub headline : Headline entries state
 

@@ -1,6 +1,7 @@
 //! Rows of calls and events on endpoints, each worked out by hand.
 
-use crate::rows::{ACTIVATE_1, Ask, E_HANDLE, ONE, Row, S_OK, TWO, holds};
+use crate::exchanges::{Ask, Row, holds};
+use crate::rows::{ACTIVATE_1, E_HANDLE, ONE, S_OK, TWO};
 use crate::run::Status;
 use crate::session_rows::{E_NOTFOUND, OWN_2};
 use crate::tests::{ACTIVATE, ADD, INITIALIZE, OPEN, replay};

@@ -8,7 +8,11 @@ ghost use Rattle.audio_daemon.specs.Run.{exit_status, is_replay};
 ghost use Rattle.audio_daemon.specs.StatusLine.{Finishes};
 
 #[cfg(test)]
+mod capture_rows;
+#[cfg(test)]
 mod endpoint_rows;
+#[cfg(test)]
+mod exchanges;
 #[cfg(test)]
 mod notice_rows;
 #[cfg(test)]

@@ -3,7 +3,8 @@
 ghost use Rattle.std.specs.Prelude.{◌≤◌, length};
 
 use crate::endpoint_rows::{ADD_2, DEVICE_INVALIDATED, DISABLED_2, ENDPOINT_2, STARTED};
-use crate::rows::{Ask, Exchange, GET_7, GET_480, ONE, Row, S_OK, SILENT_7, SILENT_480, TWO, put};
+use crate::exchanges::{Ask, Exchange, Row, put};
+use crate::rows::{GET_7, GET_480, ONE, S_OK, SILENT_7, SILENT_480, TWO};
 use crate::run::Status;
 use crate::session_rows::{ACTIVATE_2, E_INVALIDARG, E_NOTFOUND, FULL, OPEN_2, OWN_2};
 use crate::tests::{ACTIVATE, ADD, INITIALIZE, OPEN, joined, replay};

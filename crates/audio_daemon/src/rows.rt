@@ -1,59 +1,35 @@
-//! Rows of calls, each worked out by hand: what is asked, and the reply that it gets.
+//! Rows of calls of one client, each worked out by hand.
 
-ghost use Rattle.std.specs.Prelude.{◌≤◌};
-
+use crate::exchanges::{Ask, Row, holds, put};
 use crate::run::Status;
 use crate::tests::{ACTIVATE, ADD, INITIALIZE, OPEN, joined, replay};
-use std::alloc::Global;
 use std::test::Fail;
-
-/// What is asked of endpoint 1, and of connection 1 if no other is named.
-#[derive(Clone, Copy)]
-pub enum Ask {
-    /// A call's code, and the bytes of its fields. Its tag is 9.
-    Call(u8, &'static [u8]),
-    /// The same on another connection.
-    On(u8, u8, &'static [u8]),
-    /// A device event's code, and the bytes of its fields.
-    Device(u8, &'static [u8]),
-    Period,
-    Hangup,
-    Shutdown,
-    /// The connection opens, as in `OPEN`.
-    Open,
-}
-
-/// What is asked, and the code and payload of its reply.
-pub type Exchange = (Ask, u32, &'static [u8]);
-
-/// The events that come first, and what is asked then.
-pub type Row = (&'static [&'static [u8]], &'static [Exchange]);
 
 pub const S_OK: u32 = 0;
 
-const S_FALSE: u32 = 1;
+pub const S_FALSE: u32 = 1;
 
 const E_NOTIMPL: u32 = 0x8000_4001;
 
-const E_NOINTERFACE: u32 = 0x8000_4002;
+pub const E_NOINTERFACE: u32 = 0x8000_4002;
 
 pub const E_HANDLE: u32 = 0x8007_0006;
 
-const NOT_INITIALIZED: u32 = 0x8889_0001;
+pub const NOT_INITIALIZED: u32 = 0x8889_0001;
 
 const ALREADY_INITIALIZED: u32 = 0x8889_0002;
 
-const WRONG_ENDPOINT_TYPE: u32 = 0x8889_0003;
+pub const WRONG_ENDPOINT_TYPE: u32 = 0x8889_0003;
 
 const NOT_STOPPED: u32 = 0x8889_0005;
 
 const BUFFER_TOO_LARGE: u32 = 0x8889_0006;
 
-const OUT_OF_ORDER: u32 = 0x8889_0007;
+pub const OUT_OF_ORDER: u32 = 0x8889_0007;
 
 const UNSUPPORTED_FORMAT: u32 = 0x8889_0008;
 
-const INVALID_SIZE: u32 = 0x8889_0009;
+pub const INVALID_SIZE: u32 = 0x8889_0009;
 
 const BUFFER_OPERATION_PENDING: u32 = 0x8889_000b;
 
@@ -67,7 +43,7 @@ pub const TWO: &[u8] = b"\x02\0\0\0\0\0\0\0";
 const OTHER: &[u8] = b"\x63\0\0\0\0\0\0\0";
 
 /// GetBuffer and a silent ReleaseBuffer of client 1: 1, 5, 7, 10, 11, 480, 960, 961 and 48,000 frames.
-const GET_1: &[u8] = b"\x01\0\0\0\0\0\0\0\x01\0\0\0";
+pub const GET_1: &[u8] = b"\x01\0\0\0\0\0\0\0\x01\0\0\0";
 
 const GET_5: &[u8] = b"\x01\0\0\0\0\0\0\0\x05\0\0\0";
 
@@ -100,7 +76,7 @@ const NO_PADDING: &[u8] = b"\0\0\0\0";
 
 const MUCH_PADDING: &[u8] = b"\xa0\xb9\0\0";
 
-const PLAYED_480: &[u8] = b"\xe0\x01\0\0\0";
+pub const PLAYED_480: &[u8] = b"\xe0\x01\0\0\0";
 
 /// WAVEFORMATEX of 48,000 Hz and of 44,100 Hz with two channels, each after its two bytes of length.
 const MIX_FORMAT: &[u8] = b"\x12\0\x01\0\x02\0\x80\xbb\0\0\0\xee\x02\0\x04\0\x10\0\0\0";
@@ -274,69 +250,6 @@ const REFUSALS: &[Row] = &[
     (ACTIVATED, &[(Ask::Call(32, GET_1), NOT_INITIALIZED, b"")]),
     (&[ADD], &[(Ask::Call(19, ONE), E_HANDLE, b"")]),
 ];
-
-/// The size of fields or of a payload; none here is as long as 64 KiB.
-fn size_of(bytes: &[u8]) -> u32
-    ensures { result ≤ 65536 }
-{
-    bytes.len().min(65_536) as u32
-}
-
-/// Puts the frame of a call behind the input. Answers the head of its reply.
-fn put_call(conn: u8, code: u8, fields: &[u8], input: &mut Vec<u8>) -> Result<[u8; 6], Fail> {
-    input.extend_from_slice(&(size_of(fields) + 7).to_le_bytes())?;
-    input.extend_from_slice(&[3, conn, 9, 0, 0, 0, code])?;
-    input.extend_from_slice(fields)?;
-    Ok([3, conn, 9, 0, 0, 0])
-}
-
-/// Puts the frame of what is asked behind the input, and the frame of its reply behind the output.
-pub fn put(exchange: &Exchange, input: &mut Vec<u8>, output: &mut Vec<u8>) -> Result<(), Fail> {
-    let (ask, result, payload) = *exchange;
-    let head = match ask {
-        Ask::Call(code, fields) => put_call(1, code, fields, input)?,
-        Ask::On(conn, code, fields) => put_call(conn, code, fields, input)?,
-        Ask::Device(code, fields) => {
-            input.extend_from_slice(&(size_of(fields) + 2).to_le_bytes())?;
-            input.extend_from_slice(&[5, code])?;
-            input.extend_from_slice(fields)?;
-            [5, 0, 0, 0, 0, 0]
-        }
-        Ask::Shutdown => {
-            input.extend_from_slice(b"\x01\0\0\0\x07")?;
-            [7, 0, 0, 0, 0, 0]
-        }
-        Ask::Period => {
-            input.extend_from_slice(b"\x05\0\0\0\x04\x01\0\0\0")?;
-            [4, 0, 0, 0, 0, 0]
-        }
-        Ask::Hangup => {
-            input.extend_from_slice(b"\x02\0\0\0\x02\x01")?;
-            [2, 1, 0, 0, 0, 0]
-        }
-        Ask::Open => {
-            input.extend_from_slice(OPEN)?;
-            [1, 1, 0, 0, 0, 0]
-        }
-    };
-    output.extend_from_slice(&(size_of(payload) + 10).to_le_bytes())?;
-    output.extend_from_slice(&head)?;
-    output.extend_from_slice(&result.to_le_bytes())?;
-    output.extend_from_slice(payload)?;
-    Ok(())
-}
-
-/// Whether the row's replies are those that the program writes for it, and it ends with Done.
-pub fn holds(alloc: Global, row: &Row) -> Result<bool, Fail> {
-    let (first, exchanges) = *row;
-    let mut input = joined(alloc, first)?;
-    let mut output = Vec::new(alloc);
-    for exchange in exchanges {
-        put(exchange, &mut input, &mut output)?;
-    }
-    let got = replay(alloc, &input, &[], &[], &[])?;
-    Ok(got.status == Status::Done && got.output.ends_with(&output))
-}
 
 #[test]
 fn each_row_has_its_replies(rt: HostRuntime) -> Result<(), Fail> {

@@ -1,6 +1,7 @@
 //! Rows of calls on sessions and levels, each worked out by hand, and what is heard of them.
 
-use crate::rows::{Ask, E_HANDLE, Exchange, ONE, Row, S_OK, TWO, holds, put};
+use crate::exchanges::{Ask, Exchange, Row, holds, put};
+use crate::rows::{E_HANDLE, ONE, S_OK, TWO};
 use crate::run::Status;
 use crate::tests::{ACTIVATE, ADD, INITIALIZE, OPEN, joined, replay};
 use std::alloc::Global;

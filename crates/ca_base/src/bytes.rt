@@ -84,6 +84,17 @@ impl Bytes {
         Ok(())
     }
 
+    /// Adds bytes that fit without asking for memory.
+    pub fn append_reserved(&mut self, piece: &[u8])
+        requires { length self.old.list + length piece.now ≤ self.old.capacity }
+        ensures list { self.new.list ≡ self.old.list ++ piece.now }
+        ensures keeps { self.old.capacity ≤ self.new.capacity }
+    {
+        if self.append(piece).is_err() {
+            unreachable!();
+        }
+    }
+
     /// Drops all bytes, and keeps the capacity.
     pub fn clear(&mut self)
         ensures list { self.new.list ≡ [] }

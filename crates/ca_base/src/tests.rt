@@ -37,7 +37,8 @@ fn a_sink_in_memory(rt: HostRuntime) -> Result<(), Fail> {
 #[test]
 fn bytes_and_their_capacity(rt: HostRuntime) -> Result<(), Fail> {
     let mut bytes = Bytes::with_capacity(rt.alloc(), 2)?;
-    bytes.append(&[1, 2])?;
+    bytes.append_reserved(&[1]);
+    bytes.append(&[2])?;
     bytes.reserve(2)?;
     bytes.append(&[3, 4])?;
     assert_eq!(rt; bytes.as_slice(), [1, 2, 3, 4].as_slice());

@@ -4,6 +4,8 @@ use Rattle.std.proofs.Common.{◌∙◌, subst, inl, inr, is_none, nat_lt, not, 
 use Rattle.std.proofs.lemmas.Bool.{true≢false, or_right}
 use Rattle.ca_base.specs.declared.codes.Hr.{Hr}
 use Rattle.ca_base.specs.declared.codes.TheConstants.Hr as hr
+use Rattle.ca_base.specs.declared.ids.Flow.{Flow}
+use Rattle.ca_base.specs.declared.ids.Flow.TheVariants as flow
 use Rattle.ca_base.specs.declared.values.TheConstants.{FLOW_CAPTURE, ROLE_COMMUNICATIONS, SHARE_EXCLUSIVE}
 use Rattle.ca_base.specs.Rows.{Row, first}
 use Rattle.ca_model.specs.declared.event.Event.TheVariants as event
@@ -65,7 +67,7 @@ use Rattle.ca_machine.specs.Endpoints.{
   number_told,
 }
 use Rattle.ca_machine.specs.Registrations.{register_plan, take_notices_plan, unregister_plan}
-use Rattle.ca_machine.specs.Periods.{period_of}
+use Rattle.ca_machine.specs.Periods.{period_by, period_of}
 use Rattle.ca_machine.specs.Step.{unlisted_call_plan, unlisted_device_plan, call_plan, device_plan}
 use Rattle.ca_machine.specs.Complete.{IsGranted, GrantsUnlessShort, IsComplete, UnrefusedIsGranted}
 use Rattle.ca_machine.proofs.Outcomes.{row_fails}
@@ -207,7 +209,11 @@ set_complete st conn number by = plain_complete st (set_session_plan st conn num
 period_complete : (st : State) (o : Option Endpoint) → IsComplete st (period_of st o)
 period_complete st None =
     plain_complete st (period_of st None) (λ n. absurd (row_holds (shut_rows st) true hr.E_NOTFOUND [] refl n))
-period_complete st (Some e) = complete_by st (period_of st (Some e)) (λ given a n. inl refl)
+period_complete st (Some e) = by_flow e.flow
+  where
+    by_flow : (f : Flow) → IsComplete st (period_by st e f)
+    by_flow flow.Render = complete_by st (period_by st e flow.Render) (λ given a n. inl refl)
+    by_flow flow.Capture = complete_by st (period_by st e flow.Capture) (λ given a n. inl refl)
 
 -- calls and events of an endpoint: where there is none, a row has refused it
 get_default_complete : (st : State) (conn flow role : ℕ) → IsComplete st (get_default_plan st conn flow role)
@@ -305,6 +311,10 @@ call_complete st conn (call.SetStreamLevel c channel level) =
 call_complete st conn (call.GetBuffer c frames) = data_complete st conn c.0 (data_call.Get frames) _ (λ s. inl refl)
 call_complete st conn (call.ReleaseBuffer c frames flags bytes) =
     data_complete st conn c.0 (data_call.Release frames flags (length bytes.list)) _ (λ s. inl refl)
+call_complete st conn (call.GetNextPacketSize c) = data_complete st conn c.0 data_call.NextSize _ (λ s. inl refl)
+call_complete st conn (call.CaptureGetBuffer c) = data_complete st conn c.0 data_call.CaptureGet _ (λ s. inl refl)
+call_complete st conn (call.CaptureReleaseBuffer c frames) =
+    data_complete st conn c.0 (data_call.CaptureRelease frames) _ (λ s. inl refl)
 call_complete st conn (call.EnumSessions e) = plain_complete st (enum_sessions_plan st conn e.0) (λ n. inl refl)
 call_complete st conn (call.GetSession s) = get_session_complete st conn s.0
 call_complete st conn (call.SetMaster s level context) = set_complete st conn s.0 (change.Level level)

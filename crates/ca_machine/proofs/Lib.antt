@@ -9,6 +9,10 @@ pub mod SoundsTaken
 pub mod FramesHanded
 pub mod Outcomes
 pub mod Disconnects
+pub mod Recordings
+pub mod RecordedStage
+pub mod DevicesGive
+pub mod BufferReleases
 pub mod DeviceEvents
 pub mod Events
 pub mod Complete
@@ -16,4 +20,5 @@ pub mod Runs
 pub mod RunsHaveHeadline
 pub mod WorkedTurns
 mod WorkedSessions
+mod WorkedPackets
 mod Worked

@@ -5,7 +5,7 @@ use Rattle.std.specs.List.{AllByRecursion}
 use Rattle.ca_stage.specs.Stage.{Playhead, Stage}
 use Rattle.ca_stage.specs.Moves.{Move, added, playhead_after, has_playhead, with_added, after_move, after_moves}
 use Rattle.ca_stage.specs.Moves.{playhead_at}
-use Rattle.ca_stage.proofs.Lists.{chosen_by, all_weaker, all-map, find-append, first_of_two}
+use Rattle.ca_stage.proofs.Lists.{chosen_by, all_weaker, find-append, first_of_two}
 use Rattle.ca_stage.proofs.Playheads.{playhead_there, is_number}
 use Rattle.device_registry.specs.declared.endpoint.Endpoint.{Endpoint}
 

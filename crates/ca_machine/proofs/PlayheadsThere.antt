@@ -1,16 +1,16 @@
 -- The playheads of endpoints that are there, as moves are made and endpoints come and go.
-use Rattle.std.proofs.Common.{◌≡◌, ℕ, ◌+◌, ◌≤◌, ◌<◌, ◌==◌, ◌||◌, List, [], ◌∷◌, ◌++◌, map, filter, Bool, true, false}
+use Rattle.std.proofs.Common.{◌≡◌, ℕ, ◌≤◌, ◌<◌, ◌==◌, ◌||◌, List, [], ◌∷◌, ◌++◌, map, filter, Bool, true, false}
 use Rattle.std.proofs.Common.{cond, refl, sym, ap, ap₂, ◌∙◌, subst, arith, eqb, eq-eqb, if◌then◌else◌}
-use Rattle.std.proofs.lemmas.Bool.{false≢true, or_from, or_right, or_parts}
+use Rattle.std.proofs.lemmas.Bool.{false≢true, or_from, or_right}
 use Rattle.std.proofs.lemmas.Bool.Decides.{nat_tests}
-use Rattle.std.proofs.lemmas.List.{map-append}
-use Rattle.std.specs.List.{AllByRecursion, list_any}
+use Rattle.std.specs.List.{AllByRecursion}
 use Rattle.ca_stage.specs.Stage.{Playhead, Stage}
-use Rattle.ca_stage.specs.Moves.{Move, added, picked, of_client, Mixing, playhead_after, stream_after, has_playhead}
-use Rattle.ca_stage.specs.Moves.{with_added, with_opened, after_move, after_moves, picks, after_sound, sub_steps}
+use Rattle.ca_stage.specs.Moves.{Move, added, of_client, sounded, Mixing, playhead_after, stream_after}
+use Rattle.ca_stage.specs.Moves.{has_playhead, with_added, with_opened, after_move, after_moves}
+use Rattle.ca_stage.specs.Periods.{picks, after_sound, sub_steps}
 use Rattle.ca_stage.specs.Tally.{Tally, tally_by, tally_after}
 use Rattle.ca_stage.specs.Order.{is_among}
-use Rattle.ca_stage.proofs.Lists.{chosen, all-append, all-map, all_weaker}
+use Rattle.ca_stage.proofs.Lists.{all-append, all-filter, all-map, all_of, all_weaker}
 use Rattle.ca_stage.proofs.Playheads.{after_number}
 use Rattle.ca_stage.proofs.Presence.{filter-filter, filter-map}
 use Rattle.ca_machine.specs.Periods.{bytes_due}
@@ -87,7 +87,7 @@ pub there_fewer : (fewer numbers : List ℕ) (st : Stage) →
 there_fewer fewer numbers st h =
     ap (λ ps. record st { playheads = ps })
     (filter-filter (is_there fewer) (is_there numbers) st.playheads
-    (Rattle.ca_stage.proofs.Lists.all_of _ (λ p. h p.number) st.playheads))
+    (all_of _ (λ p. h p.number) st.playheads))
 
 -- an endpoint is added whose number is above all before it
 abbrev pub AreUpTo : ℕ → List Playhead → Type 0
@@ -114,7 +114,8 @@ new_head number = record { number = number; next = 0 }
 
 -- those that were there, and the new one
 filter_added : (last n : ℕ) (numbers : List ℕ) (heads : List Playhead) → last < n → AreUpTo last heads →
-    filter (is_there (numbers ++ n ∷ [])) (heads ++ new_head n ∷ []) ≡ filter (is_there numbers) heads ++ new_head n ∷ []
+    filter (is_there (numbers ++ n ∷ [])) (heads ++ new_head n ∷ [])
+    ≡ filter (is_there numbers) heads ++ new_head n ∷ []
 filter_added last n numbers [] l h = ap (λ b. cond b (new_head n ∷ []) []) (among_last n numbers)
 filter_added last n numbers (p ∷ heads) l h =
     ap₂ (λ b ps. cond b (p ∷ ps) ps) (among_more p.number n numbers (apart last n p.number l h.0))
@@ -125,7 +126,8 @@ filter_added last n numbers (p ∷ heads) l h =
     apart last n m l k = grind (arith, nat_tests)
 
     go : (b : Bool) →
-        cond b (p ∷ filter (is_there numbers) heads ++ new_head n ∷ []) (filter (is_there numbers) heads ++ new_head n ∷ [])
+        cond b (p ∷ filter (is_there numbers) heads ++ new_head n ∷ [])
+        (filter (is_there numbers) heads ++ new_head n ∷ [])
         ≡ cond b (p ∷ filter (is_there numbers) heads) (filter (is_there numbers) heads) ++ new_head n ∷ []
     go true = refl
     go false = refl
@@ -139,7 +141,7 @@ up_to_after last x heads h =
 there_filter : (numbers : List ℕ) (last : ℕ) (heads : List Playhead) → AreUpTo last heads →
     AreUpTo last (filter (is_there numbers) heads)
 there_filter numbers last heads h =
-    Rattle.ca_stage.proofs.Lists.all-filter (λ (p : Playhead). p.number ≤ last) (is_there numbers) heads h
+    all-filter (λ (p : Playhead). p.number ≤ last) (is_there numbers) heads h
 
 with_new : (last n : ℕ) (heads : List Playhead) → last < n → AreUpTo last heads →
     with_added (added n) heads ≡ heads ++ new_head n ∷ []
@@ -176,7 +178,8 @@ up_to_all last st (x ∷ xs) a h =
 pub up_to_new : (last n : ℕ) (st : Stage) → last < n → AreUpTo last st.playheads →
     AreUpTo n (after_move st (added n)).playheads
 up_to_new last n st l h =
-    subst (AreUpTo n) (sym (ap (with_added (added n)) (map_head_same n st.playheads) ∙ with_new last n st.playheads l h))
+    subst (AreUpTo n)
+    (sym (ap (with_added (added n)) (map_head_same n st.playheads) ∙ with_new last n st.playheads l h))
     (all-append (λ (p : Playhead). p.number ≤ n) st.playheads (new_head n ∷ [])
     (all_weaker (λ (p : Playhead). p.number ≤ last) (λ (p : Playhead). p.number ≤ n)
     (λ p k. below last n p.number l k) st.playheads h)
@@ -193,7 +196,7 @@ up_to_new last n st l h =
 -- what a period does is the same whatever playheads are there
 pub steps_there : (numbers : List ℕ) (st : Stage) (m : Mixing) (whole : Bool) →
     sub_steps m whole (with_playheads numbers st) ≡ sub_steps m whole st
-steps_there numbers st m whole = ap (λ ys. picks m st ++ Rattle.ca_stage.specs.Moves.Move.sounded m whole ∷ ys) (go whole)
+steps_there numbers st m whole = ap (λ ys. picks m st ++ sounded m whole ∷ ys) (go whole)
   where
     same : HaveSameStreams (after_moves (with_playheads numbers st) (picks m st)) (after_moves st (picks m st))
     same = same_streams (with_playheads numbers st) st (picks m st) (record { same = refl })

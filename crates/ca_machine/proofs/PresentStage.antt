@@ -3,11 +3,11 @@ use Rattle.std.proofs.Common.{◌≡◌, ℕ, ◌≤◌, List, [], ◌∷◌, �
 use Rattle.std.proofs.Common.{refl, sym, ap, ◌∙◌, subst}
 use Rattle.std.specs.List.{AllByRecursion}
 use Rattle.wave_format.specs.Frame.{frame_bytes}
-use Rattle.ca_stage.specs.Stage.{empty_stage, Stream, Stage}
+use Rattle.ca_stage.specs.Stage.{empty_stage, Frame, Stream, Stage}
 use Rattle.ca_stage.specs.Moves.{picked, Move, opened, of_client}
 use Rattle.ca_stage.specs.Moves.{Mixing, stream_after, as_opened, inserted, has_stream, with_opened}
-use Rattle.ca_stage.specs.Moves.{after_move, after_moves, picks}
-use Rattle.ca_stage.specs.Moves.{sub_steps}
+use Rattle.ca_stage.specs.Moves.{after_move, after_moves}
+use Rattle.ca_stage.specs.Periods.{picks, sub_steps, captures}
 use Rattle.ca_stage.specs.Mix.{sound_bytes}
 use Rattle.ca_stage.specs.Tally.{Tally, tally_by, tally_after}
 use Rattle.ca_stage.specs.Order.{is_among}
@@ -17,7 +17,7 @@ use Rattle.ca_stage.proofs.Lists.{chosen, all-map}
 use Rattle.ca_stage.proofs.Streams.{after_client, all-inserted}
 use Rattle.ca_stage.proofs.Presence.{gone_step}
 use Rattle.ca_stage.proofs.Stages.{after_moves-append}
-use Rattle.ca_machine.proofs.PeriodMoves.{OfSubSteps, picks_all, sub_steps_all}
+use Rattle.ca_machine.proofs.PeriodMoves.{OfSubSteps, picks_all, sub_steps_all, captures_all}
 
 -- the laws of the present part of a stage
 pub record PresentLaws : Type 0 where
@@ -64,11 +64,16 @@ within_after k numbers f st (x ∷ xs) o h =
 -- a period's moves open nothing
 opens_none : (numbers : List ℕ) → OfSubSteps (OpensPresent numbers)
 opens_none numbers =
-    record { picks = λ n k. tt; retires = λ n. tt; closes = λ n. tt; finish = λ m b. tt }
+    record { picks = λ n k. tt; retires = λ n. tt; feeds = λ n fs. tt; closes = λ n. tt; finish = λ m b. tt }
 
 pub sub_steps_open_none : (numbers : List ℕ) (m : Mixing) (whole : Bool) (st : Stage) →
     OpenPresent numbers (sub_steps m whole st)
 sub_steps_open_none numbers m whole st = sub_steps_all (OpensPresent numbers) (opens_none numbers) m whole tt st
+
+pub captures_open_none : (numbers : List ℕ) (number : ℕ) (frames : List Frame) (st : Stage) →
+    OpenPresent numbers (captures number frames st)
+captures_open_none numbers number frames st =
+    captures_all (OpensPresent numbers) (opens_none numbers) number frames tt st
 
 module _ (laws : PresentLaws) where
   pub present_after : (numbers : List ℕ) (ms xs : List Move) → OpenPresent numbers xs →

@@ -8,8 +8,8 @@ use Rattle.ca_stage.proofs.Stages.{after_moves-append}
 use Rattle.ca_machine.specs.State.{State}
 use Rattle.ca_machine.specs.Plan.{Outcome}
 use Rattle.ca_machine.specs.Step.{Entry, Steps, IsRun, moves_of, step}
-use Rattle.ca_machine.specs.Headline.{RunsGoOn, handed_in, all_handed, EachMixes, MixesBy, sounds_made, AreTaken}
-use Rattle.ca_machine.specs.Headline.{EachPlays}
+use Rattle.ca_machine.specs.Headline.{RunsGoOn, handed_in, all_handed, EachMixes, MixesBy, RecordsBy, sounds_made}
+use Rattle.ca_machine.specs.Headline.{AreTaken, EachPlays}
 use Rattle.ca_machine.proofs.PresentStage.{PresentLaws, stage_of}
 use Rattle.ca_machine.proofs.StateInOrder.{IsInOrder}
 use Rattle.ca_machine.proofs.Outcomes.{Upholds}
@@ -29,6 +29,7 @@ moves-append (x ∷ xs) ys =
 record UpholdsStep (ms : List Move) (st : State) (entry : Entry) (new : State) : Type 0 where
   order : IsInOrder (ms ++ entry.moves) new
   mixes : MixesBy st entry.moves
+  records : RecordsBy st entry.answers entry.moves
   plays : AreTaken (sounds_made (stage_of ms) entry.moves) entry.output
   hands : (n : ℕ) → all_released n (stage_of ms) entry.moves ≡ handed_in n (stage_of ms) entry.event entry.result
 
@@ -36,12 +37,14 @@ upholds_step : PresentLaws → (ms : List Move) (st new : State) (entry : Entry)
     UpholdsStep ms st entry new
 upholds_step laws ms st new entry h s =
     let o : Outcome = step st entry.event entry.answers in
-    let f : Upholds ms st entry.event o = upholds_event laws ms st h entry.event entry.answers s.answers in
+    let f : Upholds ms st entry.event entry.answers o =
+    upholds_event laws ms st h entry.event entry.answers s.answers in
     record {
       order =
           subst (λ (t : State). IsInOrder (ms ++ entry.moves) t) (sym s.after)
           (subst (λ xs. IsInOrder (ms ++ xs) o.after) (sym s.moves) f.order);
       mixes = subst (MixesBy st) (sym s.moves) f.mixes;
+      records = subst (RecordsBy st entry.answers) (sym s.moves) f.records;
       plays =
           subst (λ xs. AreTaken (sounds_made (stage_of ms) xs) entry.output) (sym s.moves)
           (subst (AreTaken (sounds_made (stage_of ms) o.moves)) (sym s.output) f.plays);
@@ -75,7 +78,7 @@ upholds_run laws ms st new (entry ∷ entries) h r =
     after_moves-append empty_stage ms entry.moves in
     record {
       order = subst (λ xs. IsInOrder xs new) (append_assoc ms entry.moves (moves_of entries)) g.order;
-      mixes = (r.0, r.1, f.mixes, g.mixes);
+      mixes = (r.0, r.1, f.mixes, f.records, g.mixes);
       plays = (f.plays, subst (λ (s : Stage). EachPlays s entries) along g.plays);
       hands = λ n.
           released-append n (stage_of ms) entry.moves (moves_of entries)

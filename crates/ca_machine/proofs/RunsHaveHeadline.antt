@@ -6,7 +6,8 @@ use Rattle.ca_stage.specs.Fates.{pending_of, fates}
 use Rattle.ca_stage.specs.Tally.{Tally}
 use Rattle.ca_stage.specs.Order.{clients}
 use Rattle.ca_stage.specs.Laws.{Conservation, Totals, Tallies, ClosedIsEmpty, OneSound, NothingAhead, PlacesRise}
-use Rattle.ca_stage.specs.Laws.{MixSums, Positions, Silence, PresentIsWhole, PresentGoesOn, IsKept, IsTally}
+use Rattle.ca_stage.specs.Laws.{MixSums, Positions, Silence, PresentIsWhole, PresentGoesOn, Booked, ReadInOrder}
+use Rattle.ca_stage.specs.Laws.{PacketsComeFrom, IsKept, IsTally}
 use Rattle.ca_machine.specs.State.{empty_state}
 use Rattle.ca_machine.specs.Step.{moves_of}
 use Rattle.ca_machine.specs.Headline.{RunsHaveHeadline}
@@ -27,6 +28,9 @@ pub record StageLaws : Type 0 where
   pub silence : Silence
   pub present_is_whole : PresentIsWhole
   pub present_goes_on : PresentGoesOn
+  pub booked : Booked
+  pub read_in_order : ReadInOrder
+  pub packets_come_from : PacketsComeFrom
 
 pub runs_have_headline : StageLaws → RunsHaveHeadline
 runs_have_headline laws entries new r =
@@ -53,6 +57,9 @@ runs_have_headline laws entries new r =
       rises = λ n. laws.places_rise n ms f.order.woven;
       sums = laws.mix_sums;
       mixes = f.mixes;
+      packets = λ n s e. laws.booked n s ms e;
+      reads = λ n. laws.read_in_order n ms;
+      sources = λ n s e. laws.packets_come_from n s ms f.order.woven e;
       silent = λ n s before rest e h c. laws.silence n s (moves_of before) (moves_of rest) h c;
       plays = f.plays;
     }

@@ -4,14 +4,13 @@ use Rattle.std.proofs.Common.{refl, sym, ap, ap₂, ◌∙◌, subst, append-nil
 use Rattle.std.proofs.lemmas.Bool.{false≢true}
 use Rattle.std.proofs.lemmas.List.{nil_from_length, take-append-drop}
 use Rattle.std.specs.List.{AllByRecursion}
-use Rattle.ca_stage.specs.Stage.{Stage}
-use Rattle.ca_stage.specs.Moves.{Move, sounded, Mixing}
-use Rattle.ca_stage.specs.Moves.{after_move, after_moves, picks, after_sound}
-use Rattle.ca_stage.specs.Moves.{sub_steps}
+use Rattle.ca_stage.specs.Stage.{Frame, Stage}
+use Rattle.ca_stage.specs.Moves.{Move, sounded, Mixing, after_move, after_moves}
+use Rattle.ca_stage.specs.Periods.{picks, after_sound, sub_steps, captures}
 use Rattle.ca_machine.specs.Plan.{Answer, took, failed, IsWriting, is_whole, pieces}
 use Rattle.ca_machine.specs.Periods.{bytes_due}
 use Rattle.ca_machine.specs.Headline.{Sound, sound_made, sounds_made, AreTaken}
-use Rattle.ca_machine.proofs.PeriodMoves.{OfSubSteps, picks_all, after_sound_all}
+use Rattle.ca_machine.proofs.PeriodMoves.{OfSubSteps, picks_all, after_sound_all, captures_all}
 
 -- ---- pieces
 
@@ -70,7 +69,13 @@ sounds_past st (x ∷ xs) ys h =
     ap (λ z. z ++ sounds_made (after_move st x) (xs ++ ys)) (h.0 st) ∙ sounds_past (after_move st x) xs ys h.1
 
 no_sound : OfSubSteps SoundsNone
-no_sound = record { picks = λ n k st. refl; retires = λ n st. refl; closes = λ n st. refl; finish = λ m b st. refl }
+no_sound = record {
+  picks = λ n k st. refl;
+  retires = λ n st. refl;
+  feeds = λ n frames st. refl;
+  closes = λ n st. refl;
+  finish = λ m b st. refl;
+}
 
 -- it is made of what the streams have due after the picks
 abbrev pub sound_due : Mixing → Bool → Stage → Sound
@@ -84,7 +89,13 @@ sounds_of_period m whole st =
     ∙ ap (λ sounds. sound_due m whole st ∷ sounds)
     (sounds_none _ _ (after_sound_all SoundsNone no_sound m whole (after_moves st (picks m st))))
 
--- its device took the pieces
+-- a period of an endpoint that captures has no Sound
+pub captures_sound_none : (number : ℕ) (frames : List Frame) (st at : Stage) →
+    sounds_made at (captures number frames st) ≡ []
+captures_sound_none number frames st at =
+    sounds_none at (captures number frames st) (captures_all SoundsNone no_sound number frames (λ st. refl) st)
+
+-- the Sound's device took the pieces
 pub sound_is_taken : (m : Mixing) (st : Stage) (bs : List ℕ) (given : List Answer) → bytes_due m st ≡ bs →
     IsWriting (length bs) given →
     AreTaken (sound_due m (is_whole given) st ∷ []) (pieces m.endpoint bs given)

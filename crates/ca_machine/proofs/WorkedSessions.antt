@@ -1,12 +1,12 @@
 -- Worked runs with sessions and levels: what is answered, and what devices get (this project's own).
-use Rattle.std.proofs.Common.{◌≡◌, ℕ, List, [], ◌∷◌, ◌++◌, map, replicate, false, refl}
+use Rattle.std.proofs.Common.{◌≡◌, ℕ, List, [], ◌∷◌, ◌++◌, replicate, refl}
 use Rattle.ca_base.specs.declared.ids.Guid.{Guid}
 use Rattle.ca_model.specs.declared.event.Event.TheVariants as event
 use Rattle.ca_model.specs.declared.event.Call.TheVariants as call
 use Rattle.ca_machine.specs.State.{State}
 use Rattle.ca_machine.specs.Plan.{found, took}
 use Rattle.ca_machine.proofs.WorkedTurns.{Turn, replies, output, after, ok, u32, u64, says, stereo, ready}
-use Rattle.ca_machine.proofs.WorkedTurns.{gets, releases, padding_of, starts, stops, leaves, period}
+use Rattle.ca_machine.proofs.WorkedTurns.{gets, releases, starts, leaves, period}
 
 -- ---- turns
 

@@ -183,6 +183,9 @@ player client session = record {
   gate = gate.Open;
   picked = 0;
   position = 0;
+  offered = 0;
+  ever = 0;
+  after_gap = false;
   buffer_data = no_data;
 }
 

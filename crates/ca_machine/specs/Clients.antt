@@ -91,7 +91,8 @@ is_client_on conn c = c.conn.0 == conn
 -- the connection isn't open any more, and nothing is kept for it
 abbrev pub without_connection : ℕ → State → State
 without_connection conn st =
-    with_notices_of conn no_notices (record st { connections = filter (λ c. not (is_connection conn c)) st.connections })
+    with_notices_of conn no_notices
+    (record st { connections = filter (λ c. not (is_connection conn c)) st.connections })
 
 -- a hang-up
 abbrev pub hangup_plan : State → ℕ → Plan

@@ -1,8 +1,8 @@
--- Data calls: GetCurrentPadding, GetBuffer, ReleaseBuffer (IAudioClient, IAudioRenderClient). Their rows are those of a
--- client's side over what is seen of its store.
-use Rattle.std.specs.Prelude.{ℕ, ◌*◌, ◌==◌, List, [], ◌∷◌, ◌++◌, length, replicate, pos, false, Option, Some, None}
-use Rattle.std.specs.Prelude.{if◌then◌else◌}
-use Rattle.std.specs.Int.{w32, to_le_bytes}
+-- Data calls: GetCurrentPadding, GetBuffer, ReleaseBuffer, and those of packets (IAudioClient, IAudioRenderClient,
+-- IAudioCaptureClient). Their rows are those of a client's side over what is seen of its store.
+use Rattle.std.specs.Prelude.{ℕ, suc, ◌*◌, ◌==◌, List, [], ◌∷◌, ◌++◌, length, replicate, flat_map, pos, false, Option}
+use Rattle.std.specs.Prelude.{Some, None, if◌then◌else◌}
+use Rattle.std.specs.Int.{w32, w64, to_le_bytes}
 use Rattle.ca_base.specs.declared.codes.Hr.{Hr}
 use Rattle.ca_base.specs.declared.ids.Dir.{Dir}
 use Rattle.ca_base.specs.declared.ids.Dir.TheVariants as dir
@@ -10,15 +10,15 @@ use Rattle.ca_base.specs.declared.ids.Gate.TheVariants as gate
 use Rattle.ca_base.specs.declared.ids.Seen.{Seen}
 use Rattle.ca_base.specs.declared.ids.StreamKind.{StreamKind}
 use Rattle.ca_base.specs.declared.ids.StreamKind.TheVariants as kind
-use Rattle.ca_base.specs.declared.values.TheConstants.{BUFFER_SILENT}
+use Rattle.ca_base.specs.declared.values.TheConstants.{BUFFER_DATA_DISCONTINUITY, BUFFER_SILENT}
 use Rattle.ca_base.specs.Rows.{Row}
-use Rattle.wave_format.specs.Frame.{frames_from}
+use Rattle.wave_format.specs.Frame.{frame_bytes, frames_from}
 use Rattle.client_state.specs.declared.check.DataCall.{DataCall}
 use Rattle.client_state.specs.declared.check.DataCall.TheVariants as data_call
 use Rattle.client_state.specs.declared.side.ClientSide.{ClientSide}
 use Rattle.client_state.specs.Rows.{side_rows}
-use Rattle.ca_stage.specs.Stage.{Frame, Stream, padding}
-use Rattle.ca_stage.specs.Moves.{of_client, leased, released, stream_at}
+use Rattle.ca_stage.specs.Stage.{Frame, Packet, Stream, padding, frames_waiting, is_render}
+use Rattle.ca_stage.specs.Moves.{of_client, leased, released, read, stream_at}
 use Rattle.ca_machine.specs.State.{State}
 use Rattle.ca_machine.specs.Plan.{Outcome, Plan, plain, answered, granted}
 use Rattle.ca_machine.specs.SharedRows.{data_call_rows, client_rows, with_stream}
@@ -54,9 +54,14 @@ side_of None = record {
   released = 0;
 }
 
--- what a look at a stream's store finds: a word for each pending frame, and the gate
+-- the words in a stream's store: one for each frame that is to be played; for each packet one, and one for each of its
+-- frames
+abbrev pub words_held : Stream → ℕ
+words_held s = if is_render s.kind then padding s else length s.buffer_data.packets * suc s.period
+
+-- what a look at a stream's store finds: its words, and the gate
 abbrev pub seen_of : Option Stream → Seen
-seen_of (Some s) = record { words = padding s; gate = s.gate }
+seen_of (Some s) = record { words = words_held s; gate = s.gate }
 seen_of None = record { words = 0; gate = gate.Open }
 
 -- the rows of a data call over the client's stream
@@ -70,7 +75,7 @@ data_plan st conn client call outcome = plain
 
 abbrev pub get_current_padding_plan : State → ℕ → ℕ → Plan
 get_current_padding_plan st conn client =
-    data_plan st conn client data_call.Padding (λ s. answered st (to_le_bytes w32 (padding s)))
+    data_plan st conn client data_call.Padding (λ s. answered st (to_le_bytes w32 (frames_waiting s)))
 
 abbrev pub get_buffer_plan : State → ℕ → ℕ → ℕ → Plan
 get_buffer_plan st conn client frames =
@@ -87,3 +92,43 @@ abbrev pub release_buffer_plan : State → ℕ → ℕ → ℕ → ℕ → List 
 release_buffer_plan st conn client frames flags bytes =
     data_plan st conn client (data_call.Release frames flags (length bytes))
     (λ s. granted [] (of_client client (released (frames_released frames flags bytes s.channels)) ∷ []) st)
+
+-- ---- packets
+
+-- the frames of the next packet, 0 if there is none
+abbrev pub next_packet_size : Stream → ℕ
+next_packet_size s = if length s.buffer_data.packets == 0 then 0 else s.period
+
+abbrev pub get_next_packet_size_plan : State → ℕ → ℕ → Plan
+get_next_packet_size_plan st conn client =
+    data_plan st conn client data_call.NextSize (λ s. answered st (to_le_bytes w32 (next_packet_size s)))
+
+-- the flags of a packet (AUDCLNT_BUFFERFLAGS)
+abbrev pub packet_flags : Packet → ℕ
+packet_flags p = if p.follows_gap then BUFFER_DATA_DISCONTINUITY else 0
+
+-- a packet as the payload of a reply: its frames, its flags, its position, and the bytes of its frames
+abbrev pub packet_bytes : Packet → List ℕ
+packet_bytes p =
+    to_le_bytes w32 (length p.frames)
+    ++ to_le_bytes w32 (packet_flags p)
+    ++ to_le_bytes w64 p.position
+    ++ flat_map frame_bytes p.frames
+
+-- the first packet; where there is none a row has refused the call
+abbrev pub first_packet : List Packet → List ℕ
+first_packet [] = []
+first_packet (p ∷ packets) = packet_bytes p
+
+abbrev pub capture_get_buffer_plan : State → ℕ → ℕ → Plan
+capture_get_buffer_plan st conn client = data_plan st conn client data_call.CaptureGet
+    (λ s. granted (first_packet s.buffer_data.packets) (of_client client (leased s.period) ∷ []) st)
+
+-- how many packets are read by a release of so many frames: none by one of 0
+abbrev pub packets_read : ℕ → ℕ
+packets_read frames = if frames == 0 then 0 else 1
+
+abbrev pub capture_release_buffer_plan : State → ℕ → ℕ → ℕ → Plan
+capture_release_buffer_plan st conn client frames =
+    data_plan st conn client (data_call.CaptureRelease frames)
+    (λ s. granted [] (of_client client (read (packets_read frames)) ∷ []) st)

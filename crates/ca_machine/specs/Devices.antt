@@ -1,12 +1,13 @@
--- Device events: endpoints appear, change and leave, and the service shuts down (IMMNotificationClient; the order of the
--- rows is this project's own).
-use Rattle.std.specs.Prelude.{ℕ, ◌+◌, ◌*◌, ◌==◌, ◌&&◌, ◌||◌, not, nat_lt, nat_le, List, [], ◌∷◌, ◌++◌, length, map}
+-- Device events: endpoints appear, change and leave, and the service shuts down (IMMNotificationClient; the order of
+-- the rows is this project's own).
+use Rattle.std.specs.Prelude.{ℕ, ◌==◌, ◌&&◌, ◌||◌, not, nat_lt, nat_le, List, [], ◌∷◌, ◌++◌, length, map}
 use Rattle.std.specs.Prelude.{Bool, true, false, Option, Some, None, is_none, if◌then◌else◌}
 use Rattle.std.specs.List.{filter}
 use Rattle.std.specs.Option.{option_map_or}
 use Rattle.std.specs.Str.{is_utf8}
 use Rattle.ca_base.specs.declared.codes.Hr.{Hr}
 use Rattle.ca_base.specs.declared.codes.TheConstants.Hr as hr
+use Rattle.ca_base.specs.declared.ids.Flow.{Flow}
 use Rattle.ca_base.specs.declared.ids.Flow.TheVariants as flow
 use Rattle.ca_base.specs.declared.ids.Reason.{Reason}
 use Rattle.ca_base.specs.declared.ids.Reason.TheVariants.{Removal, Shutdown, Format}
@@ -44,14 +45,9 @@ disconnects_if true reason scope st = disconnects reason scope st
 
 -- ---- Add
 
--- a value that comes with a later part of the service: an endpoint that captures
-abbrev pub later_add_rows : ℕ → List (Row Hr)
-later_add_rows flow = (flow == FLOW_CAPTURE, hr.E_NOTIMPL) ∷ []
-
 abbrev pub add_rows : State → ℕ → ℕ → List ℕ → List ℕ → List (Row Hr)
 add_rows st number flow format name =
     shut_rows st
-    ++ later_add_rows flow
     ++ (
       nat_le number st.last_endpoint
           || (nat_lt FLOW_CAPTURE flow || (is_faulty format || not (is_utf8 name))),
@@ -60,11 +56,15 @@ add_rows st number flow format name =
     ∷ (nat_le ENDPOINTS (length st.endpoints), hr.ENDPOINTS_FULL)
     ∷ []
 
+-- the flow of a number (EDataFlow)
+abbrev pub flow_numbered : ℕ → Flow
+flow_numbered number = if number == FLOW_CAPTURE then flow.Capture else flow.Render
+
 -- an endpoint as it is added: it is ACTIVE, and may be used exclusively
-abbrev pub new_endpoint : ℕ → List ℕ → List ℕ → Endpoint
-new_endpoint number format name = record {
+abbrev pub new_endpoint : ℕ → ℕ → List ℕ → List ℕ → Endpoint
+new_endpoint number flow format name = record {
   no = record { 0 = number };
-  flow = flow.Render;
+  flow = flow_numbered flow;
   state = STATE_ACTIVE;
   format = spelled format;
   name = name;
@@ -75,7 +75,7 @@ new_endpoint number format name = record {
 abbrev pub add_plan : State → ℕ → ℕ → List ℕ → List ℕ → Plan
 add_plan st number flow format name = with_memory st (add_rows st number flow format name)
     (granted [] (added number ∷ [])
-    (record st { endpoints = st.endpoints ++ new_endpoint number format name ∷ []; last_endpoint = number }))
+    (record st { endpoints = st.endpoints ++ new_endpoint number flow format name ∷ []; last_endpoint = number }))
 
 -- ---- events of an endpoint that is there
 

@@ -5,12 +5,10 @@ use Rattle.std.specs.Prelude.{Bool, Option, Some, None, is_none, if◌then◌els
 use Rattle.std.specs.List.{find, flat_map}
 use Rattle.std.specs.Option.{option_map}
 use Rattle.std.specs.Str.{bytes_eq}
-use Rattle.std.specs.Int.{w16, w32, to_le_bytes}
-use Rattle.ca_base.specs.declared.codes.Hr.{Hr}
+use Rattle.std.specs.Int.{w32, to_le_bytes}
 use Rattle.ca_base.specs.declared.codes.TheConstants.Hr as hr
 use Rattle.ca_base.specs.declared.ids.EndpointNo.{EndpointNo}
 use Rattle.ca_base.specs.declared.values.TheConstants.{FLOW_ALL, FLOW_CAPTURE, ROLE_COMMUNICATIONS}
-use Rattle.ca_base.specs.Rows.{Row}
 use Rattle.device_registry.specs.declared.endpoint.Endpoint.{Endpoint}
 use Rattle.device_registry.specs.Endpoints.{flow_number, matching}
 use Rattle.role_defaults.specs.Defaults.{default_of}

@@ -9,17 +9,21 @@ use Rattle.ca_model.specs.declared.event.Event.TheVariants as event
 use Rattle.ca_model.specs.declared.event.Call.{Call}
 use Rattle.ca_model.specs.declared.event.Call.TheVariants as call
 use Rattle.ca_stage.specs.Stage.{empty_stage, Frame, Stream, Stage, padding, is_open}
-use Rattle.ca_stage.specs.Moves.{Move, Mixing, sounded, after_move, after_moves, stream_at}
+use Rattle.ca_stage.specs.Moves.{Move, Mixing, sounded, captured, after_move, after_moves, stream_at}
 use Rattle.ca_stage.specs.Mix.{sound_bytes}
 use Rattle.ca_stage.specs.Fates.{of_found, next_of, pending_of, all_released, fates, fates_since, places_of}
 use Rattle.ca_stage.specs.Fates.{is_rendered}
 use Rattle.ca_stage.specs.Order.{clients, RisesFrom}
 use Rattle.ca_stage.specs.Present.{present, AreGone}
-use Rattle.ca_stage.specs.Laws.{IsKept, AddsUp, IsTally, IsAhead, MixSums, HasOneSound, IsOver}
+use Rattle.ca_stage.specs.Given.{frames_given}
+use Rattle.ca_stage.specs.Packets.{all_read, book, is_read, packets_marked}
+use Rattle.ca_stage.specs.Laws.{IsKept, AddsUp, IsTally, IsAhead, MixSums, HasOneSound, IsOver, IsBooked, IsFrom}
+use Rattle.device_registry.specs.declared.endpoint.Endpoint.{Endpoint}
 use Rattle.ca_machine.specs.State.{State, empty_state, endpoint_numbers, live_clients, endpoint_at}
 use Rattle.ca_machine.specs.Seats.{with_playheads}
 use Rattle.ca_machine.specs.Data.{frames_released}
-use Rattle.ca_machine.specs.Periods.{mixing_of}
+use Rattle.ca_machine.specs.Plan.{Answer, bytes_given}
+use Rattle.ca_machine.specs.Periods.{mixing_of, period_frames}
 use Rattle.ca_machine.specs.Step.{Entry, IsRun, Steps, moves_of}
 
 -- the whole stage: every stream that ever was, those of released clients too
@@ -49,7 +53,7 @@ all_handed n st [] = []
 all_handed n st (entry ∷ entries) =
     handed_in n st entry.event entry.result ++ all_handed n (after_moves st entry.moves) entries
 
--- ---- by what is mixed
+-- ---- by what is mixed, and what is recorded
 
 -- a mixing is that of its endpoint in this state
 abbrev pub IsMixingOf : State → Mixing → Type 0
@@ -61,11 +65,29 @@ MixesBy st [] = Unit {0}
 MixesBy st (sounded m whole ∷ moves) = IsMixingOf st m × MixesBy st moves
 MixesBy st (_ ∷ moves) = MixesBy st moves
 
--- each Sound of each entry mixes by the gains of the state before that entry
+-- frames that an endpoint's device gave, by these answers, are a period's of the endpoint in this state
+abbrev pub IsGivenIn : State → List Answer → ℕ → List Frame → Type 0
+IsGivenIn st given number frames =
+    (e : Endpoint)
+    × (endpoint_at number st ≡ Some e)
+    × (frames ≡ frames_given (period_frames e) e.format.channels (bytes_given given))
+
+-- so are the frames of each capture among these moves
+abbrev pub RecordsBy : State → List Answer → List Move → Type 0
+RecordsBy st given [] = Unit {0}
+RecordsBy st given (captured number frames ∷ moves) = IsGivenIn st given number frames × RecordsBy st given moves
+RecordsBy st given (_ ∷ moves) = RecordsBy st given moves
+
+-- each Sound of each entry mixes by the gains of the state before that entry, and each capture has the frames that the
+-- device gave in it
 abbrev pub EachMixes : State → List Entry → State → Type 0
 EachMixes st [] new = new ≡ st
 EachMixes st (entry ∷ entries) new =
-    (mid : State) × Steps st entry mid × MixesBy st entry.moves × EachMixes mid entries new
+    (mid : State)
+    × Steps st entry mid
+    × MixesBy st entry.moves
+    × RecordsBy st entry.answers entry.moves
+    × EachMixes mid entries new
 
 -- ---- what devices get
 
@@ -141,8 +163,20 @@ pub record Headline (entries : List Entry) (new : State) : Type 0 where
   pub rises : (n : ℕ) → RisesFrom 0 (places_of (fates n empty_stage (moves_of entries)))
   -- a Sound's frames are the mixes of the frames that are due
   pub sums : MixSums
-  -- each Sound mixes by the gains of the state before its event
+  -- each Sound mixes by the gains of the state before its event, and each capture has what the device gave in its event
   pub mixes : EachMixes empty_state entries new
+  -- every packet that was offered to a stream has one mark: it waits to be read, was read, was lost for want of room,
+  -- was reset, or was dropped for a reason; and those that wait are the stream's, in order
+  pub packets : (n : ℕ) (s : Stream) → stream_at n (whole_stage entries) ≡ Some s →
+      IsBooked s (book n empty_stage (moves_of entries))
+  -- those that were read stand in the order in which they were offered
+  pub reads : (n : ℕ) → all_read n empty_stage (moves_of entries)
+      ≡ packets_marked is_read (book n empty_stage (moves_of entries)).offers
+  -- a packet of a loopback stream has what one Sound of its endpoint wrote, one of a capture stream what one period's
+  -- device gave
+  pub sources : (n : ℕ) (s : Stream) → stream_at n (whole_stage entries) ≡ Some s →
+      AllByRecursion (λ o. IsFrom s.kind s.endpoint (moves_of entries) o.packet.frames)
+      (book n empty_stage (moves_of entries)).offers
   -- once a stream is closed nothing is released to it, no frame of it gets a fate, and no Sound sums one
   pub silent : (n : ℕ) (s : Stream) (before rest : List Entry) → entries ≡ before ++ rest →
       stream_at n (whole_stage before) ≡ Some s → is_open s ≡ false → IsOver n (moves_of before) (moves_of rest)

@@ -9,7 +9,6 @@ use Rattle.ca_model.specs.declared.event.Event.{Event}
 use Rattle.ca_model.specs.declared.event.Event.TheVariants as event
 use Rattle.ca_model.specs.declared.event.Call.{Call}
 use Rattle.ca_model.specs.declared.event.Call.TheVariants as call
-use Rattle.ca_model.specs.declared.event.DeviceEvent.{DeviceEvent}
 use Rattle.ca_model.specs.declared.event.DeviceEvent.TheVariants as device
 use Rattle.session_manager.specs.declared.session.Session.{Session}
 use Rattle.session_manager.specs.Names.{guid_text}

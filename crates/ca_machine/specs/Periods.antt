@@ -1,11 +1,14 @@
 -- A period of an endpoint (this project's own).
-use Rattle.std.specs.Prelude.{ℕ, ◌+◌, ◌==◌, not, nat_lt, List, [], ◌∷◌, ◌++◌, length, map, Bool, true, false}
-use Rattle.std.specs.Prelude.{Option, Some, None, if◌then◌else◌, slice_index}
-use Rattle.std.specs.List.{find}
+use Rattle.std.specs.Prelude.{ℕ, ◌+◌, ◌*◌, ◌==◌, ◌&&◌, ◌||◌, not, nat_lt, List, [], ◌∷◌, ◌++◌, length, map, filter}
+use Rattle.std.specs.Prelude.{Bool, true, false, Option, Some, None, if◌then◌else◌, slice_index}
+use Rattle.std.specs.List.{find, list_any}
 use Rattle.std.specs.Option.{option_map_or}
 use Rattle.std.specs.Int.{w32, to_le_bytes}
 use Rattle.ca_base.specs.declared.codes.Hr.{Hr}
 use Rattle.ca_base.specs.declared.codes.TheConstants.Hr as hr
+use Rattle.ca_base.specs.declared.ids.Flow.{Flow}
+use Rattle.ca_base.specs.declared.ids.Flow.TheVariants as flow
+use Rattle.ca_base.specs.declared.ids.Reason.TheVariants.{Removal}
 use Rattle.ca_base.specs.declared.limits.TheConstants.{MAX_COUNT, MAX_LEVEL, SHARED_PERIOD}
 use Rattle.ca_base.specs.declared.values.TheConstants.{STATE_ACTIVE, STATE_NOTPRESENT}
 use Rattle.ca_base.specs.Rows.{Row}
@@ -15,14 +18,16 @@ use Rattle.volume_stack.specs.Gains.{gain_of_stream}
 use Rattle.session_manager.specs.declared.session.Session.{Session}
 use Rattle.session_manager.specs.Sessions.{session_at}
 use Rattle.ca_stage.specs.Stage.{Stage, Stream}
-use Rattle.ca_stage.specs.Moves.{Mixing, after_moves, picks, stream_at, sub_steps}
+use Rattle.ca_stage.specs.Moves.{Mixing, Move, of_client, closed, after_moves, stream_at}
+use Rattle.ca_stage.specs.Periods.{captures, is_hearing, is_recording, open_streams_on, picks, sub_steps}
 use Rattle.ca_stage.specs.Mix.{sound_bytes}
 use Rattle.ca_stage.specs.Fates.{next_of}
+use Rattle.ca_stage.specs.Given.{frames_given, whole_frames}
 use Rattle.device_registry.specs.declared.endpoint.Endpoint.{Endpoint}
 use Rattle.device_registry.specs.Endpoints.{changed, with_state}
 use Rattle.ca_machine.specs.State.{State, endpoint_at}
-use Rattle.ca_machine.specs.Plan.{Outcome, Plan, Answer, plain, refused, moved, is_whole, pieces}
-use Rattle.ca_machine.specs.Plan.Asked.{writing}
+use Rattle.ca_machine.specs.Plan.{Outcome, Plan, Answer, plain, refused, moved, is_whole, pieces, bytes_given}
+use Rattle.ca_machine.specs.Plan.Asked.{writing, reading}
 use Rattle.ca_machine.specs.SharedRows.{shut_rows}
 
 -- the frames of an endpoint's period
@@ -68,10 +73,10 @@ mixing_of st e = record {
 abbrev pub bytes_due : Mixing → Stage → List ℕ
 bytes_due m stage = sound_bytes m (after_moves stage (picks m stage)).streams
 
--- a period that sounded: its frames, or none if the device failed, and whether it failed
-abbrev pub period_payload : Mixing → Bool → List ℕ
-period_payload m true = to_le_bytes w32 m.frames ++ 0 ∷ []
-period_payload m false = to_le_bytes w32 0 ++ 1 ∷ []
+-- a period: its frames, or none if the device failed, and whether it failed
+abbrev pub period_payload : ℕ → Bool → List ℕ
+period_payload frames true = to_le_bytes w32 frames ++ 0 ∷ []
+period_payload frames false = to_le_bytes w32 0 ++ 1 ∷ []
 
 -- the endpoints after a period: one whose device failed is NOTPRESENT
 abbrev pub with_failed : ℕ → List Endpoint → List Endpoint
@@ -84,26 +89,79 @@ after_period number false st = record st { endpoints = with_failed number st.end
 abbrev pub sounding : State → Mixing → List Answer → Outcome
 sounding st m given = record {
   result = hr.S_OK;
-  payload = period_payload m (is_whole given);
+  payload = period_payload m.frames (is_whole given);
   moves = sub_steps m (is_whole given) st.stage;
   output = pieces m.endpoint (bytes_due m st.stage) given;
   after = after_period m.endpoint (is_whole given) (moved (sub_steps m (is_whole given) st.stage) st);
 }
 
+-- ---- endpoints that capture
+
+-- the streams that record an endpoint
+abbrev pub recording_streams_on : ℕ → Stage → List Stream
+recording_streams_on number st = filter (is_recording number) st.streams
+
+-- the bytes that are asked of an endpoint's device: those of a period, if a stream records the endpoint
+abbrev pub bytes_asked : Endpoint → List Stream → ℕ
+bytes_asked e [] = 0
+bytes_asked e (s ∷ streams) = period_frames e * e.format.channels * 2
+
+-- the frames that a period records: none if the device gave no whole one
+abbrev pub frames_recorded : Endpoint → List ℕ → ℕ
+frames_recorded e bytes = if whole_frames e.format.channels bytes == 0 then 0 else period_frames e
+
+-- what a period of an endpoint that captures moves, if its device gave these bytes, or failed: each stream that records
+-- it is offered them as a packet, or the streams are closed
+abbrev pub recording_moves : Endpoint → List ℕ → Bool → Stage → List Move
+recording_moves e bytes true st =
+    if whole_frames e.format.channels bytes == 0
+    then []
+    else captures e.no.0 (frames_given (period_frames e) e.format.channels bytes) st
+recording_moves e bytes false st = map (λ s. of_client s.client (closed Removal)) (open_streams_on e.no.0 st)
+
+abbrev pub recording : State → Endpoint → List Answer → Outcome
+recording st e given = record {
+  result = hr.S_OK;
+  payload = period_payload (frames_recorded e (bytes_given given)) (is_whole given);
+  moves = recording_moves e (bytes_given given) (is_whole given) st.stage;
+  output = [];
+  after = after_period e.no.0 (is_whole given)
+      (moved (recording_moves e (bytes_given given) (is_whole given) st.stage) st);
+}
+
+-- ---- the table
+
+-- a stream that a period of an endpoint offers packets to can't count so many frames more
+abbrev pub is_worn : ℕ → ℕ → Stream → Bool
+is_worn number frames s = (is_recording number s || is_hearing number s) && nat_lt MAX_COUNT (s.ever + frames)
+
 abbrev pub period_rows : State → Endpoint → List (Row Hr)
 period_rows st e =
     shut_rows st
     ++ (not (e.state == STATE_ACTIVE), hr.DEVICE_INVALIDATED)
-    ∷ (nat_lt MAX_COUNT (next_of e.no.0 st.stage + period_frames e), hr.WORN)
+    ∷ (
+      nat_lt MAX_COUNT (next_of e.no.0 st.stage + period_frames e)
+          || list_any (is_worn e.no.0 (period_frames e)) st.stage.streams,
+      hr.WORN,
+    )
     ∷ []
 
-abbrev pub period_of : State → Option Endpoint → Plan
-period_of st None = plain (shut_rows st ++ (true, hr.E_NOTFOUND) ∷ []) (refused st hr.E_NOTFOUND)
-period_of st (Some e) = record {
+-- a period by its endpoint's flow: it plays, or it records
+abbrev pub period_by : State → Endpoint → Flow → Plan
+period_by st e flow.Render = record {
   rows = period_rows st e;
   asks = writing (length (bytes_due (mixing_of st e) st.stage));
   grants = sounding st (mixing_of st e);
 }
+period_by st e flow.Capture = record {
+  rows = period_rows st e;
+  asks = reading e.no.0 (bytes_asked e (recording_streams_on e.no.0 st.stage));
+  grants = recording st e;
+}
+
+abbrev pub period_of : State → Option Endpoint → Plan
+period_of st None = plain (shut_rows st ++ (true, hr.E_NOTFOUND) ∷ []) (refused st hr.E_NOTFOUND)
+period_of st (Some e) = period_by st e e.flow
 
 abbrev pub period_plan : State → ℕ → Plan
 period_plan st number = period_of st (endpoint_at number st)

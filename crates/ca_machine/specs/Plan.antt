@@ -1,5 +1,6 @@
 -- What an event gets: the first row of its table that holds, or else what its call does (this project's own).
-use Rattle.std.specs.Prelude.{◌≡◌, ℕ, ◌-◌, ◌<◌, ◌≤◌, List, [], ◌∷◌, take, drop, Bool, true, false, Option, Some, None}
+use Rattle.std.specs.Prelude.{◌≡◌, ℕ, ◌-◌, ◌<◌, ◌≤◌, List, [], ◌∷◌, ◌++◌, length, take, drop, Bool, true, false, Option}
+use Rattle.std.specs.Prelude.{Some, None}
 use Rattle.ca_base.specs.declared.codes.Hr.{Hr}
 use Rattle.ca_base.specs.declared.codes.TheConstants.Hr as hr
 use Rattle.ca_base.specs.Rows.{Row, first}
@@ -12,9 +13,9 @@ pub data Answer : Type 0 where
   -- memory was found, or ran out
   found : Answer
   out_of_memory : Answer
-  -- a device took so many bytes of what it was offered, or gave these bytes
+  -- a device took so many bytes of what it was offered, or that of an endpoint gave these bytes
   took : ℕ → Answer
-  gave : List ℕ → Answer
+  gave : ℕ → List ℕ → Answer
   -- a device failed
   failed : Answer
   -- a keeper of volumes had this level and mute under a key, or nothing; it kept what it was given; its memory ran out;
@@ -31,6 +32,8 @@ pub data Asked : Type 0 where
   memory : Asked → Asked
   -- a device is offered so many bytes, until it took them all or failed
   writing : ℕ → Asked
+  -- the device of an endpoint is asked for so many bytes, until it gave them all, gave none, or failed
+  reading : ℕ → ℕ → Asked
 
 -- the answers to an offer of so many bytes: each time some of the rest are taken, or the device fails
 abbrev pub IsWriting : ℕ → List Answer → Type 0
@@ -39,6 +42,16 @@ IsWriting n (took k ∷ given) = (0 < k) × (k ≤ n) × IsWriting (n - k) given
 IsWriting n (failed ∷ []) = 0 < n
 IsWriting n _ = ⊥
 
+-- the answers to a request for so many bytes: each time some of the rest are given; or none, which is the end of what
+-- the device has; or it fails
+abbrev pub IsReading : ℕ → ℕ → List Answer → Type 0
+IsReading e n [] = n ≡ 0
+IsReading e n (gave from [] ∷ given) = (from ≡ e) × (0 < n) × (given ≡ [])
+IsReading e n (gave from (byte ∷ bytes) ∷ given) =
+    (from ≡ e) × (length (byte ∷ bytes) ≤ n) × IsReading e (n - length (byte ∷ bytes)) given
+IsReading e n (failed ∷ []) = 0 < n
+IsReading e n _ = ⊥
+
 -- the answers are those to what was asked, each once
 abbrev pub AreAnswers : Asked → List Answer → Type 0
 AreAnswers nothing given = given ≡ []
@@ -46,6 +59,7 @@ AreAnswers (memory more) (found ∷ given) = AreAnswers more given
 AreAnswers (memory more) (out_of_memory ∷ []) = Unit {0}
 AreAnswers (memory more) _ = ⊥
 AreAnswers (writing n) given = IsWriting n given
+AreAnswers (reading e n) given = IsReading e n given
 
 -- no call of a device failed
 abbrev pub is_whole : List Answer → Bool
@@ -58,6 +72,12 @@ abbrev pub pieces : ℕ → List ℕ → List Answer → List (ℕ × List ℕ)
 pieces e bs [] = []
 pieces e bs (took k ∷ given) = (e, take k bs) ∷ pieces e (drop k bs) given
 pieces e bs (_ ∷ given) = pieces e bs given
+
+-- the bytes that devices gave
+abbrev pub bytes_given : List Answer → List ℕ
+bytes_given [] = []
+bytes_given (gave e bytes ∷ given) = bytes ++ bytes_given given
+bytes_given (_ ∷ given) = bytes_given given
 
 -- what an event gets: a result with its payload, the moves of the stage, what devices take, and the state after it
 pub record Outcome : Type 0 where

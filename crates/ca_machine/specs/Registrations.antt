@@ -1,6 +1,7 @@
--- What a connection registers for, and the notices that it takes (IMMDeviceEnumerator::RegisterEndpointNotificationCallback
--- and the like; numbers, order and bytes are this project's own).
-use Rattle.std.specs.Prelude.{ℕ, ◌+◌, List, [], ◌∷◌, ◌++◌, length}
+-- What a connection registers for, and the notices that it takes
+-- (IMMDeviceEnumerator::RegisterEndpointNotificationCallback and the like; numbers, order and bytes are this project's
+-- own).
+use Rattle.std.specs.Prelude.{ℕ, ◌+◌, List, [], ◌++◌, length}
 use Rattle.std.specs.List.{flat_map}
 use Rattle.std.specs.Int.{w32, w64, to_le_bytes}
 use Rattle.event_notices.specs.declared.notice.Notice.{Notice}

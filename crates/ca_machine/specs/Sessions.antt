@@ -1,14 +1,12 @@
 -- Sessions: their states, their data, and the calls that tell and set them (IAudioSessionEnumerator,
 -- IAudioSessionControl2, ISimpleAudioVolume, IChannelAudioVolume; the order of the rows is this project's own).
-use Rattle.std.specs.Prelude.{ℕ, ◌==◌, ◌&&◌, List, [], ◌∷◌, ◌++◌, length, map, take, Bool, Option, Some, None, is_none}
+use Rattle.std.specs.Prelude.{ℕ, ◌==◌, ◌&&◌, List, [], ◌∷◌, ◌++◌, length, take, Option, Some, None, is_none}
 use Rattle.std.specs.Prelude.{if◌then◌else◌}
 use Rattle.std.specs.List.{flat_map, list_any}
-use Rattle.std.specs.Int.{w16, w32, w64, w128, to_le_bytes, to_be_bytes}
-use Rattle.ca_base.specs.declared.codes.Hr.{Hr}
+use Rattle.std.specs.Int.{w16, w32, w128, to_le_bytes, to_be_bytes}
 use Rattle.ca_base.specs.declared.codes.TheConstants.Hr as hr
 use Rattle.ca_base.specs.declared.limits.TheConstants.{MAX_LEVEL}
 use Rattle.ca_base.specs.declared.values.TheConstants.{SESSION_ACTIVE, SESSION_EXPIRED, SESSION_INACTIVE}
-use Rattle.ca_base.specs.Rows.{Row}
 use Rattle.ca_stage.specs.Stage.{Stream}
 use Rattle.session_manager.specs.declared.changes.Change.{Change}
 use Rattle.session_manager.specs.declared.session.Session.{Session}

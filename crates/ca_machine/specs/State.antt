@@ -1,5 +1,5 @@
 -- The state of the one-thread machine (this project's own).
-use Rattle.std.specs.Prelude.{ℕ, ◌-◌, ◌==◌, ◌&&◌, List, [], map, filter, replicate, slice_get, slice_set, Bool, false}
+use Rattle.std.specs.Prelude.{ℕ, ◌-◌, ◌==◌, ◌&&◌, List, [], map, replicate, slice_get, slice_set, Bool, false}
 use Rattle.std.specs.Prelude.{Option}
 use Rattle.std.specs.List.{find, list_any}
 use Rattle.std.specs.Option.{unwrap_or}

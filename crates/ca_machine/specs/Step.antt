@@ -16,7 +16,8 @@ use Rattle.ca_model.specs.declared.reply.Reply.{Reply}
 use Rattle.session_manager.specs.declared.changes.Change.TheVariants as change
 use Rattle.ca_stage.specs.Moves.{Move}
 use Rattle.ca_machine.specs.State.{State}
-use Rattle.ca_machine.specs.Plan.{Outcome, Plan, Answer, Asked, AreAnswers, plain, refused, asked_of, is_whole, outcome_of}
+use Rattle.ca_machine.specs.Plan.{Outcome, Plan, Answer, Asked, AreAnswers, plain, refused, asked_of, is_whole}
+use Rattle.ca_machine.specs.Plan.{outcome_of}
 use Rattle.ca_machine.specs.Plan.Answer.{failed}
 use Rattle.ca_machine.specs.SharedRows.{control_rows, shut_rows}
 use Rattle.ca_machine.specs.Clients.{open_plan, hangup_plan, activate_plan, release_plan}
@@ -40,7 +41,14 @@ use Rattle.ca_machine.specs.Sessions.{
   get_session_plan,
   set_session_plan,
 }
-use Rattle.ca_machine.specs.Data.{get_current_padding_plan, get_buffer_plan, release_buffer_plan}
+use Rattle.ca_machine.specs.Data.{
+  capture_get_buffer_plan,
+  capture_release_buffer_plan,
+  get_buffer_plan,
+  get_current_padding_plan,
+  get_next_packet_size_plan,
+  release_buffer_plan,
+}
 use Rattle.ca_machine.specs.Endpoints.{device_info_plan, enum_endpoints_plan, get_default_plan, get_device_plan}
 use Rattle.ca_machine.specs.Registrations.{register_plan, take_notices_plan, unregister_plan}
 use Rattle.ca_machine.specs.Devices.{
@@ -97,6 +105,9 @@ call_plan st conn (call.GetStreamLevel c channel) = get_stream_level_plan st con
 call_plan st conn (call.SetStreamLevel c channel level) = set_stream_level_plan st conn c.0 channel level
 call_plan st conn (call.GetBuffer c frames) = get_buffer_plan st conn c.0 frames
 call_plan st conn (call.ReleaseBuffer c frames flags bytes) = release_buffer_plan st conn c.0 frames flags bytes.list
+call_plan st conn (call.GetNextPacketSize c) = get_next_packet_size_plan st conn c.0
+call_plan st conn (call.CaptureGetBuffer c) = capture_get_buffer_plan st conn c.0
+call_plan st conn (call.CaptureReleaseBuffer c frames) = capture_release_buffer_plan st conn c.0 frames
 call_plan st conn (call.EnumSessions e) = enum_sessions_plan st conn e.0
 call_plan st conn (call.GetSession s) = get_session_plan st conn s.0
 call_plan st conn (call.SetMaster s level context) = set_session_plan st conn s.0 (change.Level level)

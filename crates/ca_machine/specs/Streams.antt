@@ -1,5 +1,5 @@
--- Control calls of a client's stream (IAudioClient, IAudioClock, IAudioStreamVolume; the order of the rows and the sizes
--- of buffers are this project's own).
+-- Control calls of a client's stream (IAudioClient, IAudioClock, IAudioStreamVolume; the order of the rows and the
+-- sizes of buffers are this project's own).
 use Rattle.std.specs.Prelude.{ℕ, ◌+◌, ◌*◌, ◌/◌, ◌%◌, ◌==◌, ◌&&◌, ◌||◌, not, nat_lt, nat_le, min, max}
 use Rattle.std.specs.Prelude.{List, [], ◌∷◌, ◌++◌, length, map, slice_index, slice_set, Bool, true, false, Option}
 use Rattle.std.specs.Prelude.{Some, None, is_some}
@@ -8,7 +8,10 @@ use Rattle.std.specs.Option.{option_map_or}
 use Rattle.std.specs.Int.{w16, w32, w64, to_le_bytes}
 use Rattle.ca_base.specs.declared.codes.Hr.{Hr}
 use Rattle.ca_base.specs.declared.codes.TheConstants.Hr as hr
+use Rattle.ca_base.specs.declared.ids.Flow.{Flow}
+use Rattle.ca_base.specs.declared.ids.Flow.TheVariants as flow
 use Rattle.ca_base.specs.declared.ids.Gate.TheVariants as gate
+use Rattle.ca_base.specs.declared.ids.StreamKind.{StreamKind}
 use Rattle.ca_base.specs.declared.ids.StreamKind.TheVariants as kind
 use Rattle.ca_base.specs.declared.limits.TheConstants.{
   MAX_LEVEL,
@@ -17,17 +20,18 @@ use Rattle.ca_base.specs.declared.limits.TheConstants.{
   MIN_EXCLUSIVE_PERIOD,
   SHARED_PERIOD,
 }
-use Rattle.ca_base.specs.declared.values.TheConstants.{SHARE_EXCLUSIVE}
+use Rattle.ca_base.specs.declared.values.TheConstants.{FLOW_CAPTURE, SHARE_EXCLUSIVE}
 use Rattle.ca_base.specs.Rows.{Row, first}
 use Rattle.wave_format.specs.declared.format.Format.{Format}
 use Rattle.wave_format.specs.Format.{fault_rows, spelled, spelling, frames_of_time}
-use Rattle.ca_stage.specs.Stage.{Stream, padding, no_data, is_render}
+use Rattle.ca_stage.specs.Stage.{Stream, frames_waiting, no_data, is_render}
 use Rattle.ca_stage.specs.Moves.{of_client, opened, started, stopped, reset, stream_at}
 use Rattle.session_manager.specs.declared.session.SessionKey.{SessionKey}
 use Rattle.session_manager.specs.Sessions.{joined, number_joined}
 use Rattle.session_manager.specs.Rows.{join_rows}
 use Rattle.ca_machine.specs.declared.state.Client.{Client}
 use Rattle.device_registry.specs.declared.endpoint.Endpoint.{Endpoint}
+use Rattle.device_registry.specs.Endpoints.{flow_number}
 use Rattle.ca_machine.specs.State.{
   State,
   client_of,
@@ -77,16 +81,19 @@ format_payload format = to_le_bytes w16 (length (spelling format)) ++ spelling f
 -- ---- Initialize
 
 -- AUDCLNT_STREAMFLAGS: CROSSPROCESS, LOOPBACK, EVENTCALLBACK and NOPERSIST are bits 16 to 19. A session is shared by
--- processes, and the level of a session that it makes isn't kept.
+-- processes; a stream records what its endpoint plays; the level of a session that it makes isn't kept.
 abbrev pub is_cross_process : ℕ → Bool
 is_cross_process flags = not (flags / 65536 % 2 == 0)
+
+abbrev pub has_loopback : ℕ → Bool
+has_loopback flags = not (flags / 131072 % 2 == 0)
 
 abbrev pub is_kept : ℕ → Bool
 is_kept flags = flags / 524288 % 2 == 0
 
--- LOOPBACK and EVENTCALLBACK come with later parts of the service
+-- EVENTCALLBACK comes with a later part of the service
 abbrev pub has_later_flag : ℕ → Bool
-has_later_flag flags = not (flags / 131072 % 4 == 0)
+has_later_flag flags = not (flags / 262144 % 2 == 0)
 
 -- flags other than those four
 abbrev pub has_other_flag : ℕ → Bool
@@ -111,25 +118,39 @@ pub record Opening : Type 0 where
   pub format : List ℕ
   pub session : ℕ
 
--- the stream that a client opens
-abbrev pub new_stream : Client → Opening → ℕ → Stream
-new_stream client x session = record {
+-- which kind of stream is opened, on an endpoint of this flow with these flags
+abbrev pub kind_opened : Flow → ℕ → StreamKind
+kind_opened flow.Capture flags = kind.Capture
+kind_opened flow.Render flags = if has_loopback flags then kind.Loopback else kind.Render
+
+-- the words of its store, for a buffer and a period in frames: one for each frame that is to be played, or as many
+-- packets as the buffer has periods, each with a word ahead of its frames
+abbrev pub words_stored : StreamKind → ℕ → ℕ → ℕ
+words_stored kind buffer period = if is_render kind then buffer else buffer / period * (period + 1)
+
+-- the stream that a client opens, on an endpoint of this flow
+abbrev pub new_stream : Flow → Client → Opening → ℕ → Stream
+new_stream flow client x session = record {
   client = client.client.0;
   endpoint = client.endpoint.0;
-  kind = kind.Render;
+  kind = kind_opened flow x.flags;
   exclusive = false;
   event_driven = false;
   channels = (spelled x.format).channels;
   rate = (spelled x.format).rate;
   buffer = shared_buffer (spelled x.format).rate x.duration;
   period = frames_of_time (spelled x.format).rate SHARED_PERIOD;
-  capacity = shared_buffer (spelled x.format).rate x.duration;
+  capacity = words_stored (kind_opened flow x.flags) (shared_buffer (spelled x.format).rate x.duration)
+      (frames_of_time (spelled x.format).rate SHARED_PERIOD);
   latency = SHARED_PERIOD;
   session = session;
   running = false;
   gate = gate.Open;
   picked = 0;
   position = 0;
+  offered = 0;
+  ever = 0;
+  after_gap = false;
   buffer_data = no_data;
 }
 
@@ -161,6 +182,10 @@ joining_rows st conn (Some client) x = join_rows (session_key st conn client x) 
 abbrev pub later_rows : Opening → List (Row Hr)
 later_rows x = (x.share == SHARE_EXCLUSIVE || has_later_flag x.flags, hr.E_NOTIMPL) ∷ []
 
+-- an endpoint that is there captures
+abbrev pub is_capturing : Option Endpoint → Bool
+is_capturing endpoint = option_map_or (λ e. flow_number e.flow == FLOW_CAPTURE) endpoint false
+
 -- the rows over the client that was found, and its stream
 abbrev pub opening_rows : State → ℕ → Option Client → Option Stream → Opening → List (Row Hr)
 opening_rows st conn client stream x =
@@ -171,6 +196,7 @@ opening_rows st conn client stream x =
           || (has_other_flag x.flags || (is_too_long x.duration || is_too_long x.period)),
       hr.E_INVALIDARG,
     )
+    ∷ (has_loopback x.flags && is_capturing (endpoint_of st client), hr.WRONG_ENDPOINT_TYPE)
     ∷ (is_malformed x.format, hr.E_INVALIDARG)
     ∷ (is_faulty x.format || has_no_match (endpoint_of st client) x.format, hr.UNSUPPORTED_FORMAT)
     ∷ joining_rows st conn client x
@@ -180,10 +206,14 @@ initialize_rows st conn client x =
     control_rows conn st ++ later_rows x ++ client_rows conn client st
     ++ opening_rows st conn (client_of conn client st) (stream_at client st.stage) x
 
+-- the flow of a client's endpoint
+abbrev pub flow_of : State → Client → Flow
+flow_of st client = option_map_or (λ e. e.flow) (endpoint_at client.endpoint.0 st) flow.Render
+
 -- a stream is opened in a session, which is answered
 abbrev pub opened_in : State → Client → Opening → ℕ → Outcome
 opened_in st client x session =
-    granted (to_le_bytes w64 session) (opened (new_stream client x session) ∷ []) st
+    granted (to_le_bytes w64 session) (opened (new_stream (flow_of st client) client x session) ∷ []) st
 
 -- the channels of a client's endpoint
 abbrev pub endpoint_channels : State → Client → ℕ
@@ -214,9 +244,14 @@ abbrev pub get_stream_latency_plan : State → ℕ → ℕ → Plan
 get_stream_latency_plan st conn client =
     stream_plan st conn client no_rows (λ s. answered st (to_le_bytes w64 s.latency))
 
+-- the position of a stream (IAudioClock::GetPosition): the frames rendered since the last Reset, or those offered since
+-- then to a stream that records
+abbrev pub position_of : Stream → ℕ
+position_of s = if is_render s.kind then s.position else s.offered
+
 abbrev pub get_position_plan : State → ℕ → ℕ → Plan
 get_position_plan st conn client =
-    stream_plan st conn client no_rows (λ s. answered st (to_le_bytes w64 s.position ++ to_le_bytes w64 s.rate))
+    stream_plan st conn client no_rows (λ s. answered st (to_le_bytes w64 (position_of s) ++ to_le_bytes w64 s.rate))
 
 -- the rows of calls on what a client may open: its stream may be open or not
 abbrev pub endpoint_rows : State → ℕ → ℕ → List (Row Hr)
@@ -282,7 +317,7 @@ stop_plan st conn client =
 
 -- there is nothing to throw away
 abbrev pub is_at_start : Stream → Bool
-is_at_start s = padding s == 0 && s.position == 0
+is_at_start s = frames_waiting s == 0 && position_of s == 0
 
 abbrev pub reset_rows : Option Stream → List (Row Hr)
 reset_rows stream =

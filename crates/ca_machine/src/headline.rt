@@ -19,7 +19,8 @@ pub fn run_goes_on()
 
 /// Each released frame is rendered, padding, reset or dropped for a reason, once and in order; each mixed frame is the
 /// clamped sum of the frames due, each times the gains of that moment; nothing of a stream sounds after its disconnect;
-/// and devices get the mixed frames' bytes.
+/// devices get the mixed frames' bytes; and each packet that is offered waits, was read in order, or was lost for a
+/// reason, and has what one Sound wrote or one period's device gave.
 pub fn headline()
     ensures { RunsHaveHeadline }
 {
@@ -36,4 +37,7 @@ pub fn headline()
     laws::silence();
     laws::present_is_whole();
     laws::present_goes_on();
+    laws::booked();
+    laws::read_in_order();
+    laws::packets_come_from();
 }

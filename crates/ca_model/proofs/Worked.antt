@@ -123,6 +123,15 @@ released : called 25 (call.ReleaseBuffer (record { 0 = 258 }) 1 2 (record { list
     (33 ∷ client ++ 1 ∷ 0 ∷ 0 ∷ 0 ∷ 2 ∷ 0 ∷ 0 ∷ 0 ∷ 8 ∷ 9 ∷ [])
 released = refl
 
+asked_of_packet : called 15 (call.GetNextPacketSize (record { 0 = 258 })) (34 ∷ client)
+asked_of_packet = refl
+
+got_packet : called 15 (call.CaptureGetBuffer (record { 0 = 258 })) (35 ∷ client)
+got_packet = refl
+
+released_packet : called 19 (call.CaptureReleaseBuffer (record { 0 = 258 }) 480) (36 ∷ client ++ 224 ∷ 1 ∷ 0 ∷ 0 ∷ [])
+released_packet = refl
+
 asked_of_sessions : called 11 (call.EnumSessions (record { 0 = 3 })) (48 ∷ 3 ∷ 0 ∷ 0 ∷ 0 ∷ [])
 asked_of_sessions = refl
 

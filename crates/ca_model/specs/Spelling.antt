@@ -61,6 +61,9 @@ calls =
     ∷ (30, eight_bytes ∷ four_bytes ∷ four_bytes ∷ [])
     ∷ (32, eight_bytes ∷ four_bytes ∷ [])
     ∷ (33, eight_bytes ∷ four_bytes ∷ four_bytes ∷ rest ∷ [])
+    ∷ (34, eight_bytes ∷ [])
+    ∷ (35, eight_bytes ∷ [])
+    ∷ (36, eight_bytes ∷ four_bytes ∷ [])
     ∷ (48, four_bytes ∷ [])
     ∷ (49, eight_bytes ∷ [])
     ∷ (50, eight_bytes ∷ four_bytes ∷ guid ∷ [])
@@ -119,6 +122,9 @@ call_code (call.GetStreamLevel c channel) = 29
 call_code (call.SetStreamLevel c channel level) = 30
 call_code (call.GetBuffer c n) = 32
 call_code (call.ReleaseBuffer c n flags buffer) = 33
+call_code (call.GetNextPacketSize c) = 34
+call_code (call.CaptureGetBuffer c) = 35
+call_code (call.CaptureReleaseBuffer c n) = 36
 call_code (call.EnumSessions e) = 48
 call_code (call.GetSession s) = 49
 call_code (call.SetMaster s level context) = 50
@@ -157,6 +163,9 @@ call_fields (call.GetStreamLevel c channel) = number c.0 ∷ number channel ∷ 
 call_fields (call.SetStreamLevel c channel level) = number c.0 ∷ number channel ∷ number level ∷ []
 call_fields (call.GetBuffer c n) = number c.0 ∷ number n ∷ []
 call_fields (call.ReleaseBuffer c n flags buffer) = number c.0 ∷ number n ∷ number flags ∷ bytes buffer.list ∷ []
+call_fields (call.GetNextPacketSize c) = number c.0 ∷ []
+call_fields (call.CaptureGetBuffer c) = number c.0 ∷ []
+call_fields (call.CaptureReleaseBuffer c n) = number c.0 ∷ number n ∷ []
 call_fields (call.EnumSessions e) = number e.0 ∷ []
 call_fields (call.GetSession s) = number s.0 ∷ []
 call_fields (call.SetMaster s level context) = number s.0 ∷ number level ∷ number context.0 ∷ []

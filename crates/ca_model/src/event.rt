@@ -147,6 +147,19 @@ pub enum Call {
         flags: u32,
         bytes: Bytes,
     },
+    /// 34: IAudioCaptureClient::GetNextPacketSize, in frames.
+    GetNextPacketSize {
+        client: ClientNo,
+    },
+    /// 35: IAudioCaptureClient::GetBuffer, of the next packet.
+    CaptureGetBuffer {
+        client: ClientNo,
+    },
+    /// 36: IAudioCaptureClient::ReleaseBuffer: the packet's frames if it was read, or 0.
+    CaptureReleaseBuffer {
+        client: ClientNo,
+        frames: u32,
+    },
     /// 48: IAudioSessionEnumerator, the sessions of an endpoint.
     EnumSessions {
         endpoint: EndpointNo,

@@ -1,20 +1,21 @@
 -- The place up to which an endpoint's whole Sounds have gone: each move leaves it, or is a whole Sound that goes on
--- from
--- it by its period.
+-- from it by its period.
 use Rattle.std.proofs.Common.{◌≡◌, ℕ, ◌+◌, ◌==◌, List, [], ◌∷◌, Bool, true, false, Option, Some, None, refl, sym, ap}
 use Rattle.std.proofs.Common.{ap₂, ◌∙◌, subst, arith, eqb, eqb-true, eq-eqb, option_map, if◌then◌else◌}
 use Rattle.std.proofs.lemmas.Bool.{false≢true, true≢false}
 use Rattle.ca_base.specs.declared.ids.Reason.TheVariants.{Removal}
 use Rattle.ca_stage.specs.Stage.{Stream, Playhead, Stage}
-use Rattle.ca_stage.specs.Moves.{closed, picked, retired, Move, of_client, sounded, finished, Mixing, playhead_after}
-use Rattle.ca_stage.specs.Moves.{after_move, playhead_at, playing_streams_on, open_streams_on}
+use Rattle.ca_stage.specs.Moves.{closed, picked, retired, fed, Move, of_client, sounded, finished, Mixing}
+use Rattle.ca_stage.specs.Moves.{playhead_after, after_move, playhead_at}
+use Rattle.ca_stage.specs.Periods.{open_streams_on}
 use Rattle.ca_stage.specs.Fates.{place_of, next_of}
-use Rattle.ca_stage.specs.Woven.{is_data, is_sub_step, due_after}
+use Rattle.ca_stage.specs.Woven.{is_data, is_sub_step, due_after, due_of}
 use Rattle.ca_stage.specs.Laws.{sound_of, heard_at}
 use Rattle.ca_stage.proofs.Clients.{turned}
 use Rattle.ca_stage.proofs.Playheads.{next_after, next_stays, playhead_stays, leaves_places, found_number}
-use Rattle.ca_stage.proofs.SubSteps.{in_air, air_retiring, air_closing, SubStep, picks_one, sounds_whole, sounds_failed}
-use Rattle.ca_stage.proofs.SubSteps.{retires_one, closes_one, finishes_whole, finishes_failed}
+use Rattle.ca_stage.proofs.SubSteps.{in_air, air_sounded, air_closing, air_of_due, SubStep, picks_one, sounds_whole}
+use Rattle.ca_stage.proofs.SubSteps.{sounds_failed, retires_one, feeds_one, closes_one, finishes_whole}
+use Rattle.ca_stage.proofs.SubSteps.{finishes_failed}
 use Rattle.ca_stage.proofs.Flights.{flying, summed_by}
 
 -- a whole Sound in the air is one period ahead
@@ -67,9 +68,10 @@ outside_leaves (finished m false) n = refl
 outside_leaves _ n = refl
 
 pub outside_step : (number : ℕ) (st : Stage) (x : Move) → is_sub_step x ≡ false →
-    SoundStep number st x (begun number st []) (begun number (after_move st x) [])
+    SoundStep number st x (begun number st []) (begun number (after_move st x) (due_of st x))
 outside_step number st x n =
-    still_by number st x _ _ (outside_sounds_none x n) (begun_same number st x [] [] (outside_leaves x n) refl)
+    still_by number st x _ _ (outside_sounds_none x n)
+    (begun_same number st x [] (due_of st x) (outside_leaves x n) (air_of_due st x))
 
 data_sounds_none : (x : Move) → is_data x ≡ true → sounds_none x ≡ true
 data_sounds_none (of_client client m) d = refl
@@ -152,7 +154,7 @@ sub_sounds number st x due (picks_one n k e a) =
 sub_sounds number st x due (sounds_whole m e there e' held) =
     at_sounds number st x (sounded m true) due e'
     (whole_step number st m e due (due_after st (sounded m true) due) (eqb m.endpoint number) refl there
-    (air_retiring m (playing_streams_on m.endpoint st)))
+    (air_sounded m st))
 sub_sounds number st x due (sounds_failed m e) =
     at_sounds number st x (sounded m false) due e
     (still_by number st (sounded m false) _ _ refl
@@ -162,6 +164,10 @@ sub_sounds number st x due (retires_one m e n there e' a held) =
     at_sounds number st x (of_client n retired) due e'
     (still_by number st (of_client n retired) _ _ refl
     (begun_same number st (of_client n retired) (of_client n retired ∷ due) due refl refl))
+sub_sounds number st x due (feeds_one n frames e) =
+    at_sounds number st x (of_client n (fed frames)) due e
+    (still_by number st (of_client n (fed frames)) _ _ refl
+    (begun_same number st (of_client n (fed frames)) (of_client n (fed frames) ∷ due) due refl refl))
 sub_sounds number st x due (closes_one n e a) =
     at_sounds number st x (of_client n (closed Removal)) due e
     (still_by number st (of_client n (closed Removal)) _ _ refl

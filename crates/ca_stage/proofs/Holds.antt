@@ -4,9 +4,9 @@ use Rattle.std.proofs.Common.{sym, ap, ◌∙◌, subst, length-append, arith, e
 use Rattle.std.proofs.lemmas.Bool.{true≢false, and_parts}
 use Rattle.std.specs.List.{AllByRecursion}
 use Rattle.ca_stage.specs.Stage.{empty_stage, Frame, Stream, Stage, is_open}
-use Rattle.ca_stage.specs.Moves.{StreamMove, leased, released, started, stopped, reset, closed, picked, retired, Move}
-use Rattle.ca_stage.specs.Moves.{of_client, moved, is_open_of, stream_after, as_opened, after_move, after_moves}
-use Rattle.ca_stage.specs.Moves.{stream_at}
+use Rattle.ca_stage.specs.Moves.{StreamMove, leased, released, read, started, stopped, reset, closed, picked, retired}
+use Rattle.ca_stage.specs.Moves.{fed, Move, of_client, moved, is_open_of, stream_after, as_opened, after_move}
+use Rattle.ca_stage.specs.Moves.{after_moves, stream_at}
 use Rattle.ca_stage.specs.Fates.{frames_handed}
 use Rattle.ca_stage.specs.Order.{clients, AreDistinct, RisesFrom, IsStill, IsSettled, IsHeld, IsStage, AreFrames}
 use Rattle.ca_stage.specs.Order.{HasFrames, FitsStream, ReleasesFrames, AllReleaseFrames}
@@ -17,7 +17,8 @@ use Rattle.ca_stage.proofs.Clients.{rises_step, rising_distinct, each_found}
 use Rattle.ca_stage.proofs.Playheads.{playheads_distinct}
 
 settled_moved : (m : StreamMove) (s : Stream) → is_open s ≡ true → IsSettled s → IsSettled (moved m s)
-settled_moved (closed reason) s o h e = record { empty = refl; rests = refl; unpicked = refl }
+settled_moved (closed reason) s o h e =
+    record { empty = refl; no_packets = refl; rests = refl; unpicked = refl }
 settled_moved _ s o h e = absurd (true≢false (sym o ∙ e))
 
 held_more : (k : ℕ) (xs ys : List Frame) → k ≤ length xs → k ≤ length (xs ++ ys)
@@ -26,6 +27,8 @@ held_more k xs ys h = let e = length-append xs ys in omega arith
 pub held_moved : (m : StreamMove) (s : Stream) → is_open s ≡ true → IsHeld s → IsHeld (moved m s)
 held_moved (released frames) s o h = held_more s.picked s.buffer_data.pending frames h
 held_moved (leased n) s o h = h
+held_moved (read n) s o h = h
+held_moved (fed frames) s o h = h
 held_moved started s o h = h
 held_moved stopped s o h = h
 held_moved _ s o h = omega arith
@@ -72,6 +75,8 @@ frames_moved : (m : StreamMove) (s : Stream) → AreFrames s.channels (frames_ha
     HasFrames (moved m s)
 frames_moved (released frames) s f h = all-append _ s.buffer_data.pending frames h f
 frames_moved (leased n) s f h = h
+frames_moved (read n) s f h = h
+frames_moved (fed fs) s f h = h
 frames_moved started s f h = h
 frames_moved stopped s f h = h
 frames_moved reset s f h = tt

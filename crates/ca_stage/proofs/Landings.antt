@@ -8,28 +8,43 @@ use Rattle.std.proofs.lemmas.List.{get_or_append_left}
 use Rattle.std.specs.List.{AllByRecursion}
 use Rattle.ca_base.specs.declared.ids.Reason.TheVariants.{Removal}
 use Rattle.ca_stage.specs.Stage.{Frame, Stream, Playhead, Stage}
-use Rattle.ca_stage.specs.Moves.{StreamMove, leased, released, closed, picked, retired, Move, of_client, sounded}
-use Rattle.ca_stage.specs.Moves.{finished, Mixing, moved, is_open_of, stream_after, after_move, playhead_at, stream_at}
-use Rattle.ca_stage.specs.Moves.{playing_streams_on, open_streams_on}
+use Rattle.ca_stage.specs.Moves.{StreamMove, leased, released, read, closed, picked, retired, fed, Move, of_client}
+use Rattle.ca_stage.specs.Moves.{sounded, finished, Mixing, moved, is_open_of, stream_after, after_move, playhead_at}
+use Rattle.ca_stage.specs.Moves.{stream_at}
+use Rattle.ca_stage.specs.Periods.{playing_streams_on, open_streams_on}
 use Rattle.ca_stage.specs.Mix.{due_at}
 use Rattle.ca_stage.specs.Fates.{of_found, place_of, next_of, rendered_from, fated_by, pending_of, all_released, fates}
 use Rattle.ca_stage.specs.Fates.{having}
-use Rattle.ca_stage.specs.Woven.{is_period_move, is_data_move, is_data, is_sub_step, IsPeriod, due_after, IsWoven}
+use Rattle.ca_stage.specs.Woven.{is_period_move, is_data_move, is_data, is_sub_step, IsPeriod, due_after, due_of}
+use Rattle.ca_stage.specs.Woven.{IsWoven}
 use Rattle.ca_stage.specs.Order.{IsHeld, IsStage, Rests}
 use Rattle.ca_stage.proofs.Lists.{chosen, all_found}
 use Rattle.ca_stage.proofs.Streams.{after_endpoint, is_of}
 use Rattle.ca_stage.proofs.Conservation.{fated_frames}
 use Rattle.ca_stage.proofs.Playheads.{playhead_stays}
 use Rattle.ca_stage.proofs.Phases.{IsPicked, MayBePicked, idle}
-use Rattle.ca_stage.proofs.SubSteps.{in_air, air_retiring, air_closing, air_picking, plays_there, SubStep, picks_one}
-use Rattle.ca_stage.proofs.SubSteps.{sounds_whole, sounds_failed, retires_one, closes_one, finishes_whole}
-use Rattle.ca_stage.proofs.SubSteps.{finishes_failed}
+use Rattle.ca_stage.proofs.SubSteps.{in_air, air_sounded, air_closing, air_picking, air_of_due, plays_there, SubStep}
+use Rattle.ca_stage.proofs.SubSteps.{picks_one, sounds_whole, sounds_failed, retires_one, feeds_one, closes_one}
+use Rattle.ca_stage.proofs.SubSteps.{finishes_whole, finishes_failed}
 use Rattle.ca_stage.proofs.Walk.{Carries, walk}
 use Rattle.ca_stage.proofs.Places.{having_elsewhere, having_before, having_at, having_behind}
 use Rattle.ca_stage.proofs.Flights.{covers_in, flying_from, flying, summed, air, IsFlown, StepFlies, flies_step}
 use Rattle.ca_stage.proofs.Flights.{flies_none, is_retire_move, renders_none, unrendered, quiet}
 
--- data calls leave what is due
+-- data calls and feeds leave what is due
+abbrev leaves_due : StreamMove → Bool
+leaves_due (leased n) = true
+leaves_due (released frames) = true
+leaves_due (read n) = true
+leaves_due (fed frames) = true
+leaves_due _ = false
+
+data_leaves : (m : StreamMove) → is_data_move m ≡ true → leaves_due m ≡ true
+data_leaves (leased n) d = refl
+data_leaves (released frames) d = refl
+data_leaves (read n) d = refl
+data_leaves _ d = absurd (false≢true d)
+
 due_more : (i : ℕ) (s : Stream) (frames : List Frame) → IsHeld s → due_at i (moved (released frames) s) ≡ due_at i s
 due_more i s frames h = go (cases_lt i s.picked)
   where
@@ -41,28 +56,30 @@ due_more i s frames h = go (cases_lt i s.picked)
         ap (λ b. if b then slice_index_or (s.buffer_data.pending ++ frames) i [] ∷ [] else []) (le-ltb i s.picked l)
         ∙ sym (ap (λ b. if b then slice_index_or s.buffer_data.pending i [] ∷ [] else []) (le-ltb i s.picked l))
 
-due_same : (i : ℕ) (m : StreamMove) (s : Stream) → is_data_move m ≡ true → IsHeld s → due_at i (moved m s) ≡ due_at i s
+due_same : (i : ℕ) (m : StreamMove) (s : Stream) → leaves_due m ≡ true → IsHeld s → due_at i (moved m s) ≡ due_at i s
 due_same i (leased n) s d h = refl
 due_same i (released frames) s d h = due_more i s frames h
+due_same i (read n) s d h = refl
+due_same i (fed frames) s d h = refl
 due_same i _ s d h = absurd (false≢true d)
 
-due_after_data : (i client : ℕ) (m : StreamMove) (s : Stream) → is_data_move m ≡ true → IsHeld s →
+due_stays : (i client : ℕ) (m : StreamMove) (s : Stream) → leaves_due m ≡ true → IsHeld s →
     due_at i (stream_after (of_client client m) s) ≡ due_at i s
-due_after_data i client m s d h =
+due_stays i client m s d h =
     chosen (λ t. due_at i t ≡ due_at i s) (is_open_of client s) (moved m s) s (due_same i m s d h) refl
 
-pub data_no_retire : (m : StreamMove) → is_data_move m ≡ true → is_retire_move m ≡ false
-data_no_retire retired d = absurd (false≢true d)
-data_no_retire _ d = refl
+no_retire : (m : StreamMove) → leaves_due m ≡ true → is_retire_move m ≡ false
+no_retire retired d = absurd (false≢true d)
+no_retire _ d = refl
 
-data_flies : (number place client : ℕ) (st : Stage) (move : StreamMove) (old : Option Mixing) (s : Stream) →
-    is_data_move move ≡ true → IsHeld s →
+still_flies : (number place client : ℕ) (st : Stage) (move : StreamMove) (old : Option Mixing) (s : Stream) →
+    leaves_due move ≡ true → IsHeld s →
     StepFlies number place st (after_move st (of_client client move)) (of_client client move) old old s
-data_flies number place client st move old s d h =
+still_flies number place client st move old s d h =
     append-nil _
     ∙ air_same old
     ∙ ap (λ z. z ++ air old (λ m. flying m number place (after_move st x) (stream_after x s)))
-    (sym (unrendered number place st x s (ap not (data_no_retire move d))))
+    (sym (unrendered number place st x s (ap not (no_retire move d))))
   where
     x : Move
     x = of_client client move
@@ -70,7 +87,7 @@ data_flies number place client st move old s d h =
     same : (m : Mixing) → flying m number place st s ≡ flying m number place (after_move st x) (stream_after x s)
     same m =
         sym (ap₂ (λ e f. if e == number && covers_in place m (playhead_at number st) then f else [])
-        (after_endpoint x s) (due_after_data (place - next_of number st) client move s d h))
+        (after_endpoint x s) (due_stays (place - next_of number st) client move s d h))
         ∙ ap (λ o. flying_from m number place o (stream_after x s)) (sym (playhead_stays number st x refl))
 
     air_same : (o : Option Mixing) →
@@ -227,7 +244,7 @@ sub_step_flies number place n st x due h (picks_one c k e a) =
 sub_step_flies number place n st x due h (sounds_whole m e there e' held) =
     at_flies number place n st x (sounded m true) due e'
     (λ s f. sound_flies number place st m (in_air (due_after st (sounded m true) due)) s
-    (air_retiring m (playing_streams_on m.endpoint st)) (all_found (MayBePicked m) (is_of n) st.streams s held f))
+    (air_sounded m st) (all_found (MayBePicked m) (is_of n) st.streams s held f))
 sub_step_flies number place n st x due h (sounds_failed m e) =
     at_flies number place n st x (sounded m false) due e
     (λ s f. quiet number place st (sounded m false) None (in_air (due_after st (sounded m false) due)) s refl refl
@@ -236,6 +253,10 @@ sub_step_flies number place n st x due h (retires_one m e c there e' a held) =
     at_flies number place n st x (of_client c retired) due e'
     (λ s f. retire_flies number place c st m e (in_air due) s there a
     (all_found IsHeld (is_of n) st.streams s h.held f) (all_found (MayBePicked m) (is_of n) st.streams s held f))
+sub_step_flies number place n st x due h (feeds_one c frames e) =
+    at_flies number place n st x (of_client c (fed frames)) due e
+    (λ s f. still_flies number place c st (fed frames) (in_air due) s refl
+    (all_found IsHeld (is_of n) st.streams s h.held f))
 sub_step_flies number place n st x due h (closes_one c e a) =
     at_flies number place n st x (of_client c (closed Removal)) due e
     (λ s f. quiet number place st (of_client c (closed Removal)) None (in_air due) s refl refl a)
@@ -270,15 +291,17 @@ ends_flown number place n st = sym (go (pending_of n st))
 
 data_step_flies : (number place n : ℕ) (st : Stage) (x : Move) (old : Option Mixing) (s : Stream) → is_data x ≡ true →
     IsHeld s → StepFlies number place st (after_move st x) x old old s
-data_step_flies number place n st (of_client client m) old s d h = data_flies number place client st m old s d h
+data_step_flies number place n st (of_client client m) old s d h =
+    still_flies number place client st m old s (data_leaves m d) h
 data_step_flies number place n st _ old s d h = absurd (false≢true d)
 
 carries_flown : (number place n : ℕ) → Carries (IsFlown number place n)
 carries_flown number place n = record {
   ends = λ st. ends_flown number place n st;
   outside = λ st x xs e k.
-      flies_step number place n st x [] [] xs
-      (λ s f. quiet number place st x None None s (outside_renders_none x e) refl refl) k;
+      flies_step number place n st x [] (due_of st x) xs
+      (λ s f. quiet number place st x None (in_air (due_of st x)) s (outside_renders_none x e) refl (air_of_due st x))
+      k;
   data_call = λ st x next due xs h d k.
       flies_step number place n st x (next ∷ due) (next ∷ due) xs
       (λ s f. data_step_flies number place n st x (in_air (next ∷ due)) s d

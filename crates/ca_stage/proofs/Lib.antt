@@ -23,8 +23,13 @@ pub mod Presence
 pub mod StreamPlaces
 pub mod MapMoves
 pub mod MapTallies
+pub mod Feeds
+pub mod Books
+pub mod ReadOrder
 pub mod Periods
+pub mod PacketSources
 pub mod MapPeriods
 pub mod PlayheadPlaces
 mod Worked
 mod WorkedMix
+mod WorkedPackets

@@ -1,14 +1,15 @@
 -- A period with nothing between its sub-steps: the stage at its Sound, and what it adds to the tally.
-use Rattle.std.proofs.Common.{◌≡◌, ℕ, ◌≤◌, min, List, [], ◌∷◌, map, filter, Bool, true, false, refl, ap, ap₂}
+use Rattle.std.proofs.Common.{◌≡◌, ℕ, ◌≤◌, min, List, [], ◌∷◌, ◌++◌, map, filter, Bool, true, false, refl, ap, ap₂}
 use Rattle.std.proofs.Common.{◌==◌, ◌∙◌, sum_by, Option, Some, None, if◌then◌else◌}
 use Rattle.std.proofs.lemmas.Bool.{and_parts}
 use Rattle.ca_base.specs.declared.ids.Reason.TheVariants.{Removal}
 use Rattle.ca_base.specs.declared.limits.TheConstants.{MAX_TALLY}
 use Rattle.ca_stage.specs.Stage.{Stream, Stage, padding, is_open}
-use Rattle.ca_stage.specs.Moves.{StreamMove, closed, picked, retired, of_client, sounded, finished, Mixing, moved}
-use Rattle.ca_stage.specs.Moves.{is_open_of, after_move, after_moves, stream_at, is_playing, is_open_on}
-use Rattle.ca_stage.specs.Moves.{playing_streams_on, open_streams_on, picks, after_sound, sub_steps}
-use Rattle.ca_stage.specs.Mix.{sound_bytes}
+use Rattle.ca_stage.specs.Moves.{StreamMove, closed, picked, retired, Move, of_client, sounded, finished, Mixing, moved}
+use Rattle.ca_stage.specs.Moves.{is_open_of, after_move, after_moves, stream_at}
+use Rattle.ca_stage.specs.Periods.{is_playing, is_open_on, is_hearing, playing_streams_on, open_streams_on, feeds}
+use Rattle.ca_stage.specs.Periods.{picks, after_sound, sub_steps, picked_on}
+use Rattle.ca_stage.specs.Mix.{mixed, sound_bytes}
 use Rattle.ca_stage.specs.Tally.{Tally, counted, tally_of_found, tally_after}
 use Rattle.ca_stage.specs.Order.{clients, RisesFrom}
 use Rattle.ca_stage.proofs.Lists.{all_of, all_weaker}
@@ -17,8 +18,8 @@ use Rattle.ca_stage.proofs.SubSteps.{plays_open}
 use Rattle.ca_stage.proofs.MapMoves.{moves_of, moves_of_are, is_open_among, kept_once, among_kept, playheads_left}
 use Rattle.ca_stage.proofs.MapTallies.{AddsTo, amount_where, more_rendered, more_dropped, retired_adds, closed_adds}
 use Rattle.ca_stage.proofs.MapTallies.{sum_alike, sum_map, tally_moved_once, tally-append}
-use Rattle.ca_stage.proofs.Periods.{picked_by, still_plays, still_open, at_sound, picked_streams, rising_at_sound}
-use Rattle.ca_stage.proofs.Periods.{sound_leaves}
+use Rattle.ca_stage.proofs.Feeds.{feeds_tally}
+use Rattle.ca_stage.proofs.Periods.{still_plays, still_open, at_sound, picked_streams, rising_at_sound, sound_leaves}
 
 -- the streams that pass a test of open streams are moved: the tally has their amounts more
 pub kept_tally : (m : StreamMove) (amount : Stream → ℕ) (count : Tally → ℕ) (with_more : ℕ → Tally → Tally) →
@@ -56,30 +57,33 @@ picks_tally k (s ∷ left) t st =
 
 module _ (m : Mixing) (st : Stage) (r : RisesFrom 0 (clients st)) where
   -- the stage at the Sound, and what is mixed there
-  pub at_sound_is : after_moves st (picks m st) ≡ record st { streams = map (picked_by m) st.streams }
+  pub at_sound_is : after_moves st (picks m st) ≡ record st { streams = map (picked_on m) st.streams }
   at_sound_is =
       ap₂ (λ heads streams. record { playheads = heads; streams = streams })
       (playheads_left (picked m.frames) (playing_streams_on m.endpoint st) st) (picked_streams m st r)
 
+  pub frames_at_sound : mixed m (after_moves st (picks m st)).streams ≡ mixed m (map (picked_on m) st.streams)
+  frames_at_sound = ap (mixed m) (picked_streams m st r)
+
   pub mixed_at_sound : sound_bytes m (after_moves st (picks m st)).streams
-      ≡ sound_bytes m (map (picked_by m) st.streams)
+      ≡ sound_bytes m (map (picked_on m) st.streams)
   mixed_at_sound = ap (sound_bytes m) (picked_streams m st r)
 
   -- what is due of a stream that plays is as much of its padding as fits the period
-  rendered_of_one : (s : Stream) → amount_where (is_playing m.endpoint) (λ s. s.picked) (picked_by m s)
+  rendered_of_one : (s : Stream) → amount_where (is_playing m.endpoint) (λ s. s.picked) (picked_on m s)
       ≡ amount_where (is_playing m.endpoint) (λ s. min m.frames (padding s)) s
   rendered_of_one s =
-      ap (λ b. if b then (picked_by m s).picked else 0) (still_plays m s) ∙ go (is_playing m.endpoint s)
+      ap (λ b. if b then (picked_on m s).picked else 0) (still_plays m s) ∙ go (is_playing m.endpoint s)
     where
       go : (b : Bool) → (if b then (if b then moved (picked m.frames) s else s).picked else 0)
           ≡ (if b then min m.frames (padding s) else 0)
       go true = refl
       go false = refl
 
-  dropped_of_one : (s : Stream) → amount_where (is_open_on m.endpoint) padding (picked_by m s)
+  dropped_of_one : (s : Stream) → amount_where (is_open_on m.endpoint) padding (picked_on m s)
       ≡ amount_where (is_open_on m.endpoint) padding s
   dropped_of_one s =
-      ap (λ b. if b then padding (picked_by m s) else 0) (still_open m s)
+      ap (λ b. if b then padding (picked_on m s) else 0) (still_open m s)
       ∙ ap (λ k. if is_open_on m.endpoint s then k else 0) (go (is_playing m.endpoint s))
     where
       go : (b : Bool) → padding (if b then moved (picked m.frames) s else s) ≡ padding s
@@ -103,14 +107,19 @@ module _ (m : Mixing) (st : Stage) (r : RisesFrom 0 (clients st)) where
       }
   tally_of_whole t l =
       after_picks true t
-      ∙ tally-append (moves_of retired (playing_streams_on m.endpoint (at_sound m st r))) (finished m true ∷ []) t
-      (at_sound m st r)
+      ∙ tally-append (moves_of retired (playing_streams_on m.endpoint (at_sound m st r)))
+      (heard ++ finished m true ∷ []) t (at_sound m st r)
+      ∙ tally-append heard (finished m true ∷ []) _ _
+      ∙ feeds_tally (mixed m (at_sound m st r).streams) (filter (is_hearing m.endpoint) (at_sound m st r).streams) _ _
       ∙ kept_tally retired (λ s. s.picked) (λ t. t.rendered) more_rendered retired_adds (is_playing m.endpoint)
       (at_sound m st r) t (rising_at_sound m st r) (plays_open m.endpoint) l
       ∙ ap (λ a. more_rendered a t)
       (ap (sum_by (amount_where (is_playing m.endpoint) (λ s. s.picked))) (picked_streams m st r)
-      ∙ sum_map (amount_where (is_playing m.endpoint) (λ s. s.picked)) (picked_by m) st.streams
+      ∙ sum_map (amount_where (is_playing m.endpoint) (λ s. s.picked)) (picked_on m) st.streams
       ∙ sum_alike _ _ st.streams (all_of _ rendered_of_one st.streams))
+    where
+      heard : List Move
+      heard = feeds (is_hearing m.endpoint) (mixed m (at_sound m st r).streams) (at_sound m st r)
 
   -- a failed one closes the streams of its endpoint, and what they had pending is dropped
   pub tally_of_failed : (t : Tally) → t.dropped ≤ MAX_TALLY → tally_after t st (sub_steps m false st)
@@ -126,5 +135,5 @@ module _ (m : Mixing) (st : Stage) (r : RisesFrom 0 (clients st)) where
       (λ s o. (and_parts (s.endpoint == m.endpoint) (is_open s) o).1) l
       ∙ ap (λ a. more_dropped a t)
       (ap (sum_by (amount_where (is_open_on m.endpoint) padding)) (picked_streams m st r)
-      ∙ sum_map (amount_where (is_open_on m.endpoint) padding) (picked_by m) st.streams
+      ∙ sum_map (amount_where (is_open_on m.endpoint) padding) (picked_on m) st.streams
       ∙ sum_alike _ _ st.streams (all_of _ dropped_of_one st.streams))

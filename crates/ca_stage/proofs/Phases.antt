@@ -4,10 +4,11 @@ use Rattle.std.proofs.Common.{false, cond, Some, refl, sym, ap, ◌∙◌, eqb, 
 use Rattle.std.proofs.lemmas.Bool.{false≢true, or_left, or_right, both_ways}
 use Rattle.std.specs.List.{AllByRecursion}
 use Rattle.ca_base.specs.declared.ids.Reason.TheVariants.{Removal}
-use Rattle.ca_stage.specs.Stage.{Stream, Playhead, Stage}
-use Rattle.ca_stage.specs.Moves.{StreamMove, leased, released, closed, picked, retired, Move, of_client, sounded}
-use Rattle.ca_stage.specs.Moves.{finished, Mixing, moved, is_open_of, stream_after, has_stream, after_move, playhead_at}
-use Rattle.ca_stage.specs.Moves.{is_playing, playing_streams_on}
+use Rattle.ca_stage.specs.Stage.{Frame, Stream, Playhead, Stage}
+use Rattle.ca_stage.specs.Moves.{StreamMove, leased, released, read, closed, picked, retired, fed, Move, of_client}
+use Rattle.ca_stage.specs.Moves.{sounded, finished, Mixing, moved, is_open_of, stream_after, has_stream, after_move}
+use Rattle.ca_stage.specs.Moves.{playhead_at}
+use Rattle.ca_stage.specs.Periods.{is_playing, playing_streams_on}
 use Rattle.ca_stage.specs.Woven.{is_data_move, is_data, IsPeriod}
 use Rattle.ca_stage.specs.Order.{AreDistinct, Rests}
 use Rattle.ca_stage.proofs.Lists.{chosen, all-map, all_weaker, all_both, any-filter}
@@ -30,12 +31,18 @@ MayBeLeft m left s = Rests s ⊎ (IsPicked m s × has_stream s.client left ≡ t
 abbrev pub PlaysIfLeft : Mixing → List Stream → Stream → Type 0
 PlaysIfLeft m left s = has_stream s.client left ≡ true → is_playing m.endpoint s ≡ true
 
--- what is due while streams are left to be picked, to be retired, and to be closed
+-- what is due while streams are left to be picked, to be retired, and to be closed; and to be offered these frames
 abbrev pub picks_left : Mixing → Bool → List Stream → List Move
 picks_left m whole left = map (λ s. of_client s.client (picked m.frames)) left ++ sounded m whole ∷ []
 
-abbrev pub retires_left : Mixing → List Stream → List Move
-retires_left m left = map (λ s. of_client s.client retired) left ++ finished m true ∷ []
+abbrev pub feeds_left : List Frame → List Stream → List Move
+feeds_left frames left = map (λ s. of_client s.client (fed frames)) left
+
+abbrev pub hears_left : Mixing → List Frame → List Stream → List Move
+hears_left m frames left = feeds_left frames left ++ finished m true ∷ []
+
+abbrev pub retires_left : Mixing → List Frame → List Stream → List Stream → List Move
+retires_left m frames hearing left = map (λ s. of_client s.client retired) left ++ hears_left m frames hearing
 
 abbrev pub closes_left : Mixing → List Stream → List Move
 closes_left m left = map (λ s. of_client s.client (closed Removal)) left ++ finished m false ∷ []
@@ -51,10 +58,22 @@ pub record IsPicking (st : Stage) (due : List Move) (m : Mixing) (e : Playhead) 
   pub held : AllByRecursion (MayBePicked m) st.streams
   pub plays : AllByRecursion (PlaysIfLeft m left) st.streams
 
-pub record IsRetiring (st : Stage) (due : List Move) (m : Mixing) (e : Playhead) (left : List Stream) : Type 0 where
+pub record IsRetiring (st : Stage) (due : List Move) (m : Mixing) (e : Playhead) (frames : List Frame)
+    (hearing left : List Stream) : Type 0 where
   pub there : playhead_at m.endpoint st ≡ Some e
-  pub due_is : due ≡ retires_left m left
+  pub due_is : due ≡ retires_left m frames hearing left
   pub held : AllByRecursion (MayBeLeft m left) st.streams
+
+-- a whole period offers frames to those who hear, and a device's frames are offered to those that record it
+pub record IsFeeding (st : Stage) (due : List Move) (m : Mixing) (e : Playhead) (frames : List Frame)
+    (left : List Stream) : Type 0 where
+  pub there : playhead_at m.endpoint st ≡ Some e
+  pub due_is : due ≡ hears_left m frames left
+  pub rests : AllByRecursion Rests st.streams
+
+pub record IsRecording (st : Stage) (due : List Move) (frames : List Frame) (left : List Stream) : Type 0 where
+  pub due_is : due ≡ feeds_left frames left
+  pub rests : AllByRecursion Rests st.streams
 
 pub record IsClosing (st : Stage) (due : List Move) (m : Mixing) (left : List Stream) : Type 0 where
   pub due_is : due ≡ closes_left m left
@@ -64,7 +83,11 @@ pub data Phase (st : Stage) (due : List Move) : Type 0 where
   idle : IsIdle st due → Phase st due
   picking : (m : Mixing) (e : Playhead) (whole : Bool) (left : List Stream) → IsPicking st due m e whole left →
       Phase st due
-  retiring : (m : Mixing) (e : Playhead) (left : List Stream) → IsRetiring st due m e left → Phase st due
+  retiring : (m : Mixing) (e : Playhead) (frames : List Frame) (hearing left : List Stream) →
+      IsRetiring st due m e frames hearing left → Phase st due
+  feeding : (m : Mixing) (e : Playhead) (frames : List Frame) (left : List Stream) →
+      IsFeeding st due m e frames left → Phase st due
+  recording : (frames : List Frame) (left : List Stream) → IsRecording st due frames left → Phase st due
   closing : (m : Mixing) (left : List Stream) → IsClosing st due m left → Phase st due
 
 -- a stream that passes is among those that pass
@@ -133,6 +156,8 @@ data_may mx (leased n) s d (inl z) = inl z
 data_may mx (leased n) s d (inr p) = inr (record { plays = p.plays; fits = p.fits })
 data_may mx (released frames) s d (inl z) = inl z
 data_may mx (released frames) s d (inr p) = inr (record { plays = p.plays; fits = p.fits })
+data_may mx (read n) s d (inl z) = inl z
+data_may mx (read n) s d (inr p) = inr (record { plays = p.plays; fits = p.fits })
 data_may mx _ s d h = absurd (false≢true d)
 
 data_left : (mx : Mixing) (left : List Stream) (m : StreamMove) (s : Stream) → is_data_move m ≡ true →
@@ -141,17 +166,21 @@ data_left mx left (leased n) s d (inl z) = inl z
 data_left mx left (leased n) s d (inr p) = inr (record { plays = p.0.plays; fits = p.0.fits }, p.1)
 data_left mx left (released frames) s d (inl z) = inl z
 data_left mx left (released frames) s d (inr p) = inr (record { plays = p.0.plays; fits = p.0.fits }, p.1)
+data_left mx left (read n) s d (inl z) = inl z
+data_left mx left (read n) s d (inr p) = inr (record { plays = p.0.plays; fits = p.0.fits }, p.1)
 data_left mx left _ s d h = absurd (false≢true d)
 
 data_plays : (mx : Mixing) (left : List Stream) (m : StreamMove) (s : Stream) → is_data_move m ≡ true →
     PlaysIfLeft mx left s → PlaysIfLeft mx left (moved m s)
 data_plays mx left (leased n) s d h = h
 data_plays mx left (released frames) s d h = h
+data_plays mx left (read n) s d h = h
 data_plays mx left _ s d h = absurd (false≢true d)
 
 pub data_rests : (m : StreamMove) (s : Stream) → is_data_move m ≡ true → Rests s → Rests (moved m s)
 data_rests (leased n) s d z = z
 data_rests (released frames) s d z = z
+data_rests (read n) s d z = z
 data_rests _ s d z = absurd (false≢true d)
 
 data_phase : (st : Stage) (client : ℕ) (m : StreamMove) (due : List Move) → is_data_move m ≡ true →
@@ -168,12 +197,21 @@ data_phase st client m due d (picking mx e whole left k) = picking mx e whole le
       all_moved (PlaysIfLeft mx left) (PlaysIfLeft mx left) st client m (λ s h. h) (λ s h. data_plays mx left m s d h)
       k.plays;
 })
-data_phase st client m due d (retiring mx e left k) = retiring mx e left (record {
+data_phase st client m due d (retiring mx e frames hearing left k) = retiring mx e frames hearing left (record {
   there = playhead_stays mx.endpoint st (of_client client m) refl ∙ k.there;
   due_is = k.due_is;
   held =
       all_moved (MayBeLeft mx left) (MayBeLeft mx left) st client m (λ s h. h) (λ s h. data_left mx left m s d h)
       k.held;
+})
+data_phase st client m due d (feeding mx e frames left k) = feeding mx e frames left (record {
+  there = playhead_stays mx.endpoint st (of_client client m) refl ∙ k.there;
+  due_is = k.due_is;
+  rests = all_moved Rests Rests st client m (λ s z. z) (λ s z. data_rests m s d z) k.rests;
+})
+data_phase st client m due d (recording frames left k) = recording frames left (record {
+  due_is = k.due_is;
+  rests = all_moved Rests Rests st client m (λ s z. z) (λ s z. data_rests m s d z) k.rests;
 })
 data_phase st client m due d (closing mx left k) = closing mx left (record {
   due_is = k.due_is;

@@ -4,7 +4,8 @@ use Rattle.std.proofs.Common.{sym, ap, ap₂, ◌∙◌, slice_get, slice_set, e
 use Rattle.std.proofs.lemmas.Bool.{both_ways, or_left, or_parts, or_right}
 use Rattle.std.proofs.lemmas.Option.{same_Some, none-some}
 use Rattle.ca_stage.specs.Stage.{Playhead, Stage}
-use Rattle.ca_stage.specs.Moves.{finished, Mixing, playhead_after, after_moves, playhead_at, sub_steps}
+use Rattle.ca_stage.specs.Moves.{finished, Mixing, playhead_after, after_moves, playhead_at}
+use Rattle.ca_stage.specs.Periods.{sub_steps}
 use Rattle.ca_stage.specs.Order.{clients, is_among, IsWithout, AreDistinct, RisesFrom}
 use Rattle.ca_stage.proofs.Playheads.{numbers_of, playhead_there, found_number}
 use Rattle.ca_stage.proofs.Periods.{period_by}

@@ -4,13 +4,15 @@ use Rattle.std.proofs.Common.{false, cond, Option, Some, None, refl, sym, ap, ap
 use Rattle.std.proofs.Common.{if◌then◌else◌, lt-ltb}
 use Rattle.std.proofs.lemmas.Bool.{true≢false, false≢true, and_left, and_right}
 use Rattle.std.specs.List.{list_any, AllByRecursion, range_with_len}
-use Rattle.ca_stage.specs.Stage.{empty_stage, Frame, Stream, Stage, is_open, is_render}
-use Rattle.ca_stage.specs.Moves.{Mixing, sub_steps, after_sound, playing_streams_on, open_streams_on, sounded, finished}
-use Rattle.ca_stage.specs.Moves.{picked}
-use Rattle.ca_stage.specs.Moves.{retired, StreamMove, closed, Move, opened, of_client, moved, is_open_of, stream_after}
-use Rattle.ca_stage.specs.Moves.{has_stream, as_opened, inserted, with_opened, after_move, after_moves, stream_at}
-use Rattle.ca_stage.specs.Moves.{is_playing, is_open_on}
-use Rattle.ca_stage.specs.Mix.{due_at, due_frames, streams_on, mix_of}
+use Rattle.ca_base.specs.declared.ids.Reason.TheVariants.{Removal}
+use Rattle.ca_base.specs.declared.ids.StreamKind.{StreamKind}
+use Rattle.ca_stage.specs.Stage.{empty_stage, Frame, Stream, Stage, is_open, is_render, is_capture, is_loopback}
+use Rattle.ca_stage.specs.Moves.{Mixing, StreamMove, closed, picked, retired, fed, Move, opened, of_client, sounded}
+use Rattle.ca_stage.specs.Moves.{finished, captured, moved, is_open_of, stream_after, has_stream, as_opened, inserted}
+use Rattle.ca_stage.specs.Moves.{with_opened, after_move, after_moves, stream_at}
+use Rattle.ca_stage.specs.Periods.{is_playing, is_open_on, is_recording, is_hearing, playing_streams_on}
+use Rattle.ca_stage.specs.Periods.{open_streams_on, feeds, picks, after_sound, sub_steps}
+use Rattle.ca_stage.specs.Mix.{due_at, due_frames, streams_on, mix_of, mixed}
 use Rattle.ca_stage.specs.Tally.{Tally, tally_of_stream, tally_of_found, tally_by}
 use Rattle.ca_stage.specs.Order.{clients, is_among, RisesFrom, IsSettled, IsStage}
 use Rattle.ca_stage.specs.Present.{present, IsGone, AreGone, IsWhole, OpensPresent}
@@ -19,10 +21,9 @@ use Rattle.ca_stage.proofs.Lists.{chosen, chosen_by, all-map, all-filter, all_bo
 use Rattle.ca_stage.proofs.Lists.{all_found}
 use Rattle.ca_stage.proofs.Streams.{after_client, stays, all-inserted, not_open_of, is_of, found_client}
 use Rattle.ca_stage.proofs.Clients.{clients_of, clients_moved, lt_true, rises_step}
-use Rattle.ca_stage.proofs.Holds.{stage_holds}
+use Rattle.ca_stage.proofs.Holds.{stage_after, stage_holds}
 use Rattle.ca_stage.proofs.Silence.{nothing_due}
-use Rattle.ca_base.specs.declared.ids.Reason.TheVariants.{Removal}
-use Rattle.ca_stage.proofs.Stages.{sub_steps_are, after_moves-append}
+use Rattle.ca_stage.proofs.Stages.{after_moves-append}
 
 -- whether the client of a stream is among these
 abbrev pub is_left : List ℕ → Stream → Bool
@@ -80,11 +81,12 @@ any_same : {A : Type 0} (p q : A → Bool) (xs : List A) → ((x : A) → q x �
 any_same p q [] h = refl
 any_same p q (x ∷ xs) h = kept_any p x (filter q xs) xs (q x) (h x) (any_same p q xs h)
 
--- a closed stream neither plays nor is open on an endpoint, and has nothing due
-closed_rests : (number : ℕ) (s : Stream) → is_open s ≡ false → is_playing number s ≡ false
-closed_rests number s c =
-    and_right (s.endpoint == number) (is_open s && (s.running && is_render s.kind))
-    (and_left (is_open s) (s.running && is_render s.kind) c)
+-- a closed stream neither plays, hears, records nor is open on an endpoint, and has nothing due
+closed_rests : (number : ℕ) (test : StreamKind → Bool) (s : Stream) → is_open s ≡ false →
+    (s.endpoint == number && (is_open s && (s.running && test s.kind))) ≡ false
+closed_rests number test s c =
+    and_right (s.endpoint == number) (is_open s && (s.running && test s.kind))
+    (and_left (is_open s) (s.running && test s.kind) c)
 
 closed_not_on : (number : ℕ) (s : Stream) → is_open s ≡ false → is_open_on number s ≡ false
 closed_not_on number s c = and_right (s.endpoint == number) (is_open s) c
@@ -162,57 +164,55 @@ tally_same numbers st _ t g = refl
 due_gone : (numbers : List ℕ) (i : ℕ) (s : Stream) → IsGone numbers s → IsSettled s → HasNothingDue numbers i s
 due_gone numbers i s g h e = nothing_due i s (h (g e)).unpicked
 
+-- the streams that pass a test of open streams
+tests_left : (numbers : List ℕ) (st : Stage) (test : Stream → Bool) →
+    ((s : Stream) → is_open s ≡ false → test s ≡ false) → AreGone numbers st →
+    filter test (present numbers st).streams ≡ filter test st.streams
+tests_left numbers st test h g =
+    filter-filter test (is_left numbers) st.streams
+    (all_weaker (IsGone numbers) (λ s. is_left numbers s ≡ false → test s ≡ false) (λ s k e. h s (k e)) st.streams g)
+
+feeds_left_out : (numbers : List ℕ) (st : Stage) (test : Stream → Bool) (frames : List Frame) →
+    ((s : Stream) → is_open s ≡ false → test s ≡ false) → AreGone numbers st →
+    feeds test frames (present numbers st) ≡ feeds test frames st
+feeds_left_out numbers st test frames h g =
+    ap (map (λ s. of_client s.client (fed frames))) (tests_left numbers st test h g)
+
 playing_left : (numbers : List ℕ) (st : Stage) (endpoint : ℕ) → AreGone numbers st →
     playing_streams_on endpoint (present numbers st) ≡ playing_streams_on endpoint st
 playing_left numbers st endpoint g =
-    filter-filter (is_playing endpoint) (is_left numbers) st.streams
-    (all_weaker (IsGone numbers) (λ s. is_left numbers s ≡ false → is_playing endpoint s ≡ false)
-    (λ s k e. closed_rests endpoint s (k e)) st.streams g)
+    tests_left numbers st (is_playing endpoint) (λ s c. closed_rests endpoint is_render s c) g
 
 open_left : (numbers : List ℕ) (st : Stage) (endpoint : ℕ) → AreGone numbers st →
     open_streams_on endpoint (present numbers st) ≡ open_streams_on endpoint st
 open_left numbers st endpoint g =
-    filter-filter (is_open_on endpoint) (is_left numbers) st.streams
-    (all_weaker (IsGone numbers) (λ s. is_left numbers s ≡ false → is_open_on endpoint s ≡ false)
-    (λ s k e. closed_not_on endpoint s (k e)) st.streams g)
+    tests_left numbers st (is_open_on endpoint) (λ s c. closed_not_on endpoint s c) g
 
-pub present_whole : (numbers : List ℕ) (st : Stage) → IsStage st → AreGone numbers st → IsWhole numbers st
-present_whole numbers st h g = record {
-  playing = λ endpoint. playing_left numbers st endpoint g;
-  open_on = λ endpoint. open_left numbers st endpoint g;
-  due = λ endpoint i. due_same endpoint i;
-  mixes = λ m.
-      map_alike (λ i. mix_of m (due_frames i (streams_on m.endpoint (present numbers st).streams)))
-      (λ i. mix_of m (due_frames i (streams_on m.endpoint st.streams))) (range_with_len 0 m.frames)
-      (all_of _ (λ i. ap (mix_of m) (due_same m.endpoint i)) (range_with_len 0 m.frames));
-  periods = λ m whole. same_periods m whole;
-  found = λ n e. found_left numbers st n e;
-  tallies = λ x t. tally_same numbers st x t g;
-}
-  where
-    due_same : (endpoint i : ℕ) →
-        due_frames i (streams_on endpoint (present numbers st).streams) ≡ due_frames i (streams_on endpoint st.streams)
-    due_same endpoint i =
-        due_left numbers endpoint i st.streams
-        (all_both (IsGone numbers) IsSettled (HasNothingDue numbers i) (due_gone numbers i) st.streams g h.settled)
+due_same : (numbers : List ℕ) (st : Stage) (endpoint i : ℕ) → IsStage st → AreGone numbers st →
+    due_frames i (streams_on endpoint (present numbers st).streams) ≡ due_frames i (streams_on endpoint st.streams)
+due_same numbers st endpoint i h g =
+    due_left numbers endpoint i st.streams
+    (all_both (IsGone numbers) IsSettled (HasNothingDue numbers i) (due_gone numbers i) st.streams g h.settled)
 
-    same_after : (m : Mixing) (whole : Bool) → after_sound m whole (present numbers st) ≡ after_sound m whole st
-    same_after m true =
-        ap (λ ss. map (λ s. of_client s.client retired) ss ++ finished m true ∷ [])
-        (playing_left numbers st m.endpoint g)
-    same_after m false =
-        ap (λ ss. map (λ s. of_client s.client (closed Removal)) ss ++ finished m false ∷ [])
-        (open_left numbers st m.endpoint g)
+mixes_same : (numbers : List ℕ) (st : Stage) (m : Mixing) → IsStage st → AreGone numbers st →
+    mixed m (present numbers st).streams ≡ mixed m st.streams
+mixes_same numbers st m h g =
+    map_alike (λ i. mix_of m (due_frames i (streams_on m.endpoint (present numbers st).streams)))
+    (λ i. mix_of m (due_frames i (streams_on m.endpoint st.streams))) (range_with_len 0 m.frames)
+    (all_of _ (λ i. ap (mix_of m) (due_same numbers st m.endpoint i h g)) (range_with_len 0 m.frames))
 
-    same_periods : (m : Mixing) (whole : Bool) → sub_steps m whole (present numbers st) ≡ sub_steps m whole st
-    same_periods m whole =
-        sub_steps_are m whole (present numbers st)
-        ∙ ap₂ (λ ss ms. map (λ s. of_client s.client (picked m.frames)) ss ++ sounded m whole ∷ ms)
-        (playing_left numbers st m.endpoint g) (same_after m whole)
-        ∙ sym (sub_steps_are m whole st)
-
-pub present_is_whole : PresentIsWhole
-present_is_whole numbers xs g = present_whole numbers (after_moves empty_stage xs) (stage_holds xs) g
+-- what follows a Sound
+after_left : (numbers : List ℕ) (st : Stage) (m : Mixing) (whole : Bool) → IsStage st → AreGone numbers st →
+    after_sound m whole (present numbers st) ≡ after_sound m whole st
+after_left numbers st m true h g =
+    ap₂ (λ ss ms. map (λ s. of_client s.client retired) ss ++ (ms ++ finished m true ∷ []))
+    (playing_left numbers st m.endpoint g)
+    (ap (λ frames. feeds (is_hearing m.endpoint) frames (present numbers st)) (mixes_same numbers st m h g)
+    ∙ feeds_left_out numbers st (is_hearing m.endpoint) (mixed m st.streams)
+    (λ s c. closed_rests m.endpoint is_loopback s c) g)
+after_left numbers st m false h g =
+    ap (λ ss. map (λ s. of_client s.client (closed Removal)) ss ++ finished m false ∷ [])
+    (open_left numbers st m.endpoint g)
 
 -- a stream of a client that is there is set among all as among those that are there
 above_all : (n low : ℕ) (streams : List Stream) → n < low → RisesFrom low (clients_of streams) →
@@ -328,6 +328,49 @@ pub gone_step : (numbers : List ℕ) (st : Stage) (x : Move) → OpensPresent nu
 gone_step numbers st x h g =
     gone_opened numbers x (map (stream_after x) st.streams) h
     (all-map (IsGone numbers) (IsGone numbers) (stream_after x) (gone_moved numbers x) st.streams g)
+
+gone_all : (numbers : List ℕ) (st : Stage) (xs : List Move) → AllByRecursion (OpensPresent numbers) xs →
+    AreGone numbers st → AreGone numbers (after_moves st xs)
+gone_all numbers st [] h g = g
+gone_all numbers st (x ∷ xs) h g = gone_all numbers (after_move st x) xs h.1 (gone_step numbers st x h.0 g)
+
+-- so a period is the same without them
+pick_opens_none : (numbers : List ℕ) (m : Mixing) (left : List Stream) →
+    AllByRecursion (OpensPresent numbers) (map (λ s. of_client s.client (picked m.frames)) left)
+pick_opens_none numbers m [] = tt
+pick_opens_none numbers m (s ∷ left) = (tt, pick_opens_none numbers m left)
+
+periods_left : (numbers : List ℕ) (st : Stage) (m : Mixing) (whole : Bool) → IsStage st → AreGone numbers st →
+    sub_steps m whole (present numbers st) ≡ sub_steps m whole st
+periods_left numbers st m whole h g =
+    let opens = pick_opens_none numbers m (playing_streams_on m.endpoint st) in
+    ap (λ ss. rest_of (map (λ s. of_client s.client (picked m.frames)) ss) (present numbers st))
+    (playing_left numbers st m.endpoint g)
+    ∙ ap (λ at. picks m st ++ sounded m whole ∷ after_sound m whole at)
+    (sym (present_all numbers st (picks m st) opens h.rising))
+    ∙ ap (λ ms. picks m st ++ sounded m whole ∷ ms)
+    (after_left numbers (after_moves st (picks m st)) m whole (stage_after st (picks m st) h)
+    (gone_all numbers st (picks m st) opens g))
+  where
+    rest_of : List Move → Stage → List Move
+    rest_of xs at = xs ++ sounded m whole ∷ after_sound m whole (after_moves at xs)
+
+pub present_whole : (numbers : List ℕ) (st : Stage) → IsStage st → AreGone numbers st → IsWhole numbers st
+present_whole numbers st h g = record {
+  playing = λ endpoint. playing_left numbers st endpoint g;
+  open_on = λ endpoint. open_left numbers st endpoint g;
+  due = λ endpoint i. due_same numbers st endpoint i h g;
+  mixes = λ m. mixes_same numbers st m h g;
+  periods = λ m whole. periods_left numbers st m whole h g;
+  feeds = λ endpoint frames.
+      ap (λ ms. captured endpoint frames ∷ ms)
+      (feeds_left_out numbers st (is_recording endpoint) frames (λ s c. closed_rests endpoint is_capture s c) g);
+  found = λ n e. found_left numbers st n e;
+  tallies = λ x t. tally_same numbers st x t g;
+}
+
+pub present_is_whole : PresentIsWhole
+present_is_whole numbers xs g = present_whole numbers (after_moves empty_stage xs) (stage_holds xs) g
 
 -- after its close a client's stream is closed
 abbrev pub IsClosedOf : ℕ → Stream → Type 0

@@ -6,12 +6,12 @@ use Rattle.std.proofs.lemmas.Bool.{true≢false, false≢true}
 use Rattle.std.specs.List.{AllByRecursion}
 use Rattle.ca_base.specs.declared.ids.Reason.TheVariants.{Removal}
 use Rattle.ca_stage.specs.Stage.{empty_stage, Frame, Stream, Playhead, Stage}
-use Rattle.ca_stage.specs.Moves.{StreamMove, leased, released, started, stopped, reset, closed, picked, retired, Move}
-use Rattle.ca_stage.specs.Moves.{of_client, sounded, finished, Mixing, moved, is_open_of, stream_after, playhead_after}
-use Rattle.ca_stage.specs.Moves.{after_move, playhead_at, stream_at}
+use Rattle.ca_stage.specs.Moves.{StreamMove, leased, released, read, started, stopped, reset, closed, picked, retired}
+use Rattle.ca_stage.specs.Moves.{fed, Move, of_client, sounded, finished, Mixing, moved, is_open_of, stream_after}
+use Rattle.ca_stage.specs.Moves.{playhead_after, after_move, playhead_at, stream_at}
 use Rattle.ca_stage.specs.Fates.{Fate, Rendered, Reset, Dropped, of_found, place_of, next_of, rendered_from}
 use Rattle.ca_stage.specs.Fates.{fates_given, fated_by, fates, places_of}
-use Rattle.ca_stage.specs.Woven.{is_data_move, is_data, is_sub_step, due_after}
+use Rattle.ca_stage.specs.Woven.{is_data_move, is_data, is_sub_step, due_after, due_of}
 use Rattle.ca_stage.specs.Order.{RisesFrom, IsHeld, IsStage, Rests}
 use Rattle.ca_stage.specs.Laws.{PlacesRise}
 use Rattle.ca_stage.proofs.Lists.{chosen, all_found}
@@ -20,7 +20,7 @@ use Rattle.ca_stage.proofs.Holds.{empty_is_stage}
 use Rattle.ca_stage.proofs.Playheads.{next_after, playhead_stays}
 use Rattle.ca_stage.proofs.Phases.{MayBePicked, idle}
 use Rattle.ca_stage.proofs.SubSteps.{in_air, plays_there, SubStep, picks_one, sounds_whole, sounds_failed, retires_one}
-use Rattle.ca_stage.proofs.SubSteps.{closes_one, finishes_whole, finishes_failed}
+use Rattle.ca_stage.proofs.SubSteps.{feeds_one, closes_one, finishes_whole, finishes_failed}
 use Rattle.ca_stage.proofs.Walk.{Carries, walk}
 use Rattle.ca_stage.proofs.Flights.{is_retire_move}
 use Rattle.ca_stage.proofs.Landings.{begins_grounded, outside_no_retire as move_no_retire}
@@ -95,6 +95,8 @@ rests_moved : (m : StreamMove) (s : Stream) → is_pick_move m ≡ false → Res
 rests_moved (picked n) s p z = absurd (true≢false p)
 rests_moved (leased n) s p z = z
 rests_moved (released frames) s p z = z
+rests_moved (read n) s p z = z
+rests_moved (fed frames) s p z = z
 rests_moved started s p z = z
 rests_moved stopped s p z = z
 rests_moved reset s p z = refl
@@ -278,6 +280,8 @@ sub_rises n st x due xs h s (picks_one c k e a) f =
 sub_rises n st x due xs h s (sounds_whole m e there e' held) f =
     sub_quiet n st x (sounded m true) due xs e' refl (inl refl) s f
 sub_rises n st x due xs h s (sounds_failed m e) f = sub_quiet n st x (sounded m false) due xs e refl (inl refl) s f
+sub_rises n st x due xs h s (feeds_one c frames e) f =
+    sub_quiet n st x (of_client c (fed frames)) due xs e refl (inl refl) s f
 sub_rises n st x due xs h s (closes_one c e a) f =
     sub_quiet n st x (of_client c (closed Removal)) due xs e refl (inl refl) s f
 sub_rises n st x due xs h s (finishes_whole m e there e' d held) f =
@@ -294,6 +298,7 @@ sub_rises n st x due xs h s (retires_one m e c there e' a held) f =
 data_no_pick_move : (m : StreamMove) → is_data_move m ≡ true → (is_pick_move m ≡ false) × (is_retire_move m ≡ false)
 data_no_pick_move (leased n) d = (refl, refl)
 data_no_pick_move (released frames) d = (refl, refl)
+data_no_pick_move (read n) d = (refl, refl)
 data_no_pick_move _ d = absurd (false≢true d)
 
 data_no_pick : (x : Move) → is_data x ≡ true → (is_pick x ≡ false) × (is_retire x ≡ false)
@@ -317,7 +322,7 @@ carries_rising : (n : ℕ) → Carries (IsRising n)
 carries_rising n = record {
   ends = λ st low h. tt;
   outside = λ st x xs e k.
-      quiet_rises n st x [] [] xs (outside_no_retire x e)
+      quiet_rises n st x [] (due_of st x) xs (outside_no_retire x e)
       (record { steps = λ number. outside_step number st x e; grounded = inr refl }) k;
   data_call = λ st x next due xs h d k.
       quiet_rises n st x (next ∷ due) (next ∷ due) xs (data_no_pick x d).1

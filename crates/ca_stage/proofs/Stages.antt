@@ -5,18 +5,19 @@ use Rattle.std.proofs.lemmas.Bool.{true≢false, false≢true}
 use Rattle.std.specs.Bool.{MatchBool}
 use Rattle.std.specs.List.{AllByRecursion}
 use Rattle.ca_base.specs.declared.ids.Reason.TheVariants.{Removal}
-use Rattle.ca_stage.specs.Stage.{empty_stage, Stream, Playhead, Stage}
-use Rattle.ca_stage.specs.Moves.{closed, picked, retired, Move, of_client, sounded, finished, Mixing, stream_after}
-use Rattle.ca_stage.specs.Moves.{after_move, after_moves, playhead_at, is_playing, is_open_on, playing_streams_on}
-use Rattle.ca_stage.specs.Moves.{open_streams_on, picks, after_sound, sub_steps, is_open_of, moved}
-use Rattle.ca_stage.specs.Woven.{IsPeriod, is_data, is_sub_step, due_after, IsWoven}
+use Rattle.ca_stage.specs.Stage.{empty_stage, Frame, Stream, Playhead, Stage}
+use Rattle.ca_stage.specs.Moves.{closed, picked, retired, fed, Move, of_client, sounded, finished, captured, Mixing}
+use Rattle.ca_stage.specs.Moves.{after_move, after_moves, playhead_at}
+use Rattle.ca_stage.specs.Periods.{is_hearing, is_recording, playing_streams_on, open_streams_on, picks, after_sound}
+use Rattle.ca_stage.specs.Periods.{sub_steps, captures}
+use Rattle.ca_stage.specs.Mix.{mixed}
+use Rattle.ca_stage.specs.Woven.{IsPeriod, is_data, is_sub_step, due_after, due_of, IsWoven}
 use Rattle.ca_stage.specs.Order.{IsStage, Rests, frames_ahead}
 use Rattle.ca_stage.specs.Laws.{RestsBetween, PicksFit}
-use Rattle.ca_stage.proofs.Lists.{all_weaker, chosen}
-use Rattle.ca_stage.proofs.Streams.{after_client}
+use Rattle.ca_stage.proofs.Lists.{all_weaker}
 use Rattle.ca_stage.proofs.Holds.{stage_step, empty_is_stage}
-use Rattle.ca_stage.proofs.Phases.{MayBePicked, MayBeLeft, Phase, idle, picking, retiring, closing, picks_left}
-use Rattle.ca_stage.proofs.Phases.{retires_left, closes_left}
+use Rattle.ca_stage.proofs.Phases.{MayBePicked, MayBeLeft, Phase, idle, picking, retiring, feeding, recording, closing}
+use Rattle.ca_stage.proofs.Phases.{picks_left, feeds_left, hears_left, retires_left, closes_left}
 use Rattle.ca_stage.proofs.Walk.{Moment, steps, phase_rests}
 
 pub after_moves-append : (st : Stage) (xs ys : List Move) →
@@ -25,10 +26,11 @@ after_moves-append st [] ys = refl
 after_moves-append st (x ∷ xs) ys = after_moves-append (after_move st x) xs ys
 
 begins_more : (st : Stage) (x : Move) (F G : List Move → Type 0) → ((due : List Move) → F due → G due) →
-    (b : Bool) → MatchBool b ((due : List Move) × IsPeriod st (x ∷ due) × F (due_after st x due)) (F []) →
-    MatchBool b ((due : List Move) × IsPeriod st (x ∷ due) × G (due_after st x due)) (G [])
+    (b : Bool) →
+    MatchBool b ((due : List Move) × IsPeriod st (x ∷ due) × F (due_after st x due)) (F (due_of st x)) →
+    MatchBool b ((due : List Move) × IsPeriod st (x ∷ due) × G (due_after st x due)) (G (due_of st x))
 begins_more st x F G f true w = (w.0, w.1, f (due_after st x w.0) w.2)
-begins_more st x F G f false w = f [] w
+begins_more st x F G f false w = f (due_of st x) w
 
 continues_more : (st : Stage) (x next : Move) (due : List Move) (F G : List Move → Type 0) →
     ((due : List Move) → F due → G due) → (b : Bool) →
@@ -50,21 +52,38 @@ woven-append st (next ∷ due) (x ∷ xs) ys w k =
     (λ due. IsWoven (after_move st x) due (xs ++ ys))
     (λ due v. woven-append (after_move st x) due xs ys v k) (is_data x) w
 
--- a move that is no sub-step is woven
-pub woven_one : (st : Stage) (x : Move) → is_sub_step x ≡ false → IsWoven st [] (x ∷ [])
-woven_one st x h = go (is_sub_step x) h
+-- a move that is no sub-step is woven, if nothing is due after it
+pub woven_one : (st : Stage) (x : Move) → is_sub_step x ≡ false → due_of st x ≡ [] → IsWoven st [] (x ∷ [])
+woven_one st x h d = go (is_sub_step x) h
   where
     go : (b : Bool) → b ≡ false →
         MatchBool b
         ((due : List Move) × IsPeriod st (x ∷ due) × IsWoven (after_move st x) (due_after st x due) [])
-        (IsWoven (after_move st x) [] [])
+        (IsWoven (after_move st x) (due_of st x) [])
     go true e = absurd (true≢false e)
-    go false e = tt
+    go false e = subst (λ due. IsWoven (after_move st x) due []) (sym d) tt
 
 -- what is left of a period is woven where it is due
-woven_retires : (st : Stage) (m : Mixing) (left : List Stream) → IsWoven st (retires_left m left) (retires_left m left)
-woven_retires st m [] = (refl, tt)
-woven_retires st m (s ∷ left) = (refl, woven_retires (after_move st (of_client s.client retired)) m left)
+woven_feeds : (st : Stage) (frames : List Frame) (left : List Stream) →
+    IsWoven st (feeds_left frames left) (feeds_left frames left)
+woven_feeds st frames [] = tt
+woven_feeds st frames (s ∷ left) = (refl, woven_feeds (after_move st (of_client s.client (fed frames))) frames left)
+
+woven_hears : (st : Stage) (m : Mixing) (frames : List Frame) (left : List Stream) →
+    IsWoven st (hears_left m frames left) (hears_left m frames left)
+woven_hears st m frames [] = (refl, tt)
+woven_hears st m frames (s ∷ left) = (refl, woven_hears (after_move st (of_client s.client (fed frames))) m frames left)
+
+woven_retires : (st : Stage) (m : Mixing) (frames : List Frame) (hearing left : List Stream) →
+    IsWoven st (retires_left m frames hearing left) (retires_left m frames hearing left)
+woven_retires st m frames hearing [] = woven_hears st m frames hearing
+woven_retires st m frames hearing (s ∷ left) =
+    (refl, woven_retires (after_move st (of_client s.client retired)) m frames hearing left)
+
+-- a period of an endpoint that captures is woven
+pub woven_captures : (number : ℕ) (frames : List Frame) (st : Stage) → IsWoven st [] (captures number frames st)
+woven_captures number frames st =
+    woven_feeds (after_move st (captured number frames)) frames (filter (is_recording number) st.streams)
 
 woven_closes : (st : Stage) (m : Mixing) (left : List Stream) → IsWoven st (closes_left m left) (closes_left m left)
 woven_closes st m [] = (refl, tt)
@@ -72,7 +91,9 @@ woven_closes st m (s ∷ left) = (refl, woven_closes (after_move st (of_client s
 
 woven_after_sound : (st : Stage) (m : Mixing) (whole : Bool) (at : Stage) →
     IsWoven st (after_sound m whole at) (after_sound m whole at)
-woven_after_sound st m true at = woven_retires st m (playing_streams_on m.endpoint at)
+woven_after_sound st m true at =
+    woven_retires st m (mixed m at.streams) (filter (is_hearing m.endpoint) at.streams)
+    (playing_streams_on m.endpoint at)
 woven_after_sound st m false at = woven_closes st m (open_streams_on m.endpoint at)
 
 -- the moves of the picks that are left
@@ -105,7 +126,7 @@ pub woven_period : (m : Mixing) (whole : Bool) (e : Playhead) (st : Stage) → p
     IsWoven st [] (sub_steps m whole st)
 woven_period m whole e st t = woven_begun st m whole e (playing_streams_on m.endpoint st) t refl
 
--- picks leave what plays and what is open, so what is due after the Sound is known before
+-- what is told of the streams that pass a test, of streams that were changed without a change to either
 pick_same : {A B : Type 0} (g : A → B) (x y : A) (xs ys : List A) (b c : Bool) → b ≡ c → g x ≡ g y →
     map g xs ≡ map g ys → map g (cond b (x ∷ xs) xs) ≡ map g (cond c (y ∷ ys) ys)
 pick_same g x y xs ys true true e h k = ap₂ (λ z zs. z ∷ zs) h k
@@ -113,43 +134,12 @@ pick_same g x y xs ys false false e h k = k
 pick_same g x y xs ys true false e h k = absurd (true≢false e)
 pick_same g x y xs ys false true e h k = absurd (false≢true e)
 
-map_filter_same : {A B : Type 0} (g : A → B) (test : A → Bool) (f : A → A) → ((a : A) → test (f a) ≡ test a) →
+pub map_filter_same : {A B : Type 0} (g : A → B) (test : A → Bool) (f : A → A) → ((a : A) → test (f a) ≡ test a) →
     ((a : A) → g (f a) ≡ g a) → (xs : List A) → map g (filter test (map f xs)) ≡ map g (filter test xs)
 map_filter_same g test f t h [] = refl
 map_filter_same g test f t h (x ∷ xs) =
     pick_same g (f x) x (filter test (map f xs)) (filter test xs) (test (f x)) (test x) (t x) (h x)
     (map_filter_same g test f t h xs)
-
-pick_keeps : (test : Stream → Bool) → ((k : ℕ) (s : Stream) → test (record s { picked = k }) ≡ test s) →
-    (n k : ℕ) (s : Stream) → test (stream_after (of_client n (picked k)) s) ≡ test s
-pick_keeps test h n k s =
-    chosen (λ t. test t ≡ test s) (is_open_of n s)
-    (moved (picked k) s) s (h _ s) refl
-
-same_after_pick : (m : Mixing) (whole : Bool) (n k : ℕ) (st : Stage) →
-    after_sound m whole (after_move st (of_client n (picked k))) ≡ after_sound m whole st
-same_after_pick m true n k st =
-    ap (λ ms. ms ++ finished m true ∷ [])
-    (map_filter_same (λ s. of_client s.client retired) (is_playing m.endpoint) (stream_after (of_client n (picked k)))
-    (pick_keeps (is_playing m.endpoint) (λ k s. refl) n k)
-    (λ s. ap (λ c. of_client c retired) (after_client (of_client n (picked k)) s)) st.streams)
-same_after_pick m false n k st =
-    ap (λ ms. ms ++ finished m false ∷ [])
-    (map_filter_same (λ s. of_client s.client (closed Removal)) (is_open_on m.endpoint)
-    (stream_after (of_client n (picked k))) (pick_keeps (is_open_on m.endpoint) (λ k s. refl) n k)
-    (λ s. ap (λ c. of_client c (closed Removal)) (after_client (of_client n (picked k)) s)) st.streams)
-
-same_after_picks : (m : Mixing) (whole : Bool) (left : List Stream) (st : Stage) →
-    after_sound m whole (after_moves st (picks_of m left)) ≡ after_sound m whole st
-same_after_picks m whole [] st = refl
-same_after_picks m whole (s ∷ left) st =
-    same_after_picks m whole left (after_move st (of_client s.client (picked m.frames)))
-    ∙ same_after_pick m whole s.client m.frames st
-
-pub sub_steps_are : (m : Mixing) (whole : Bool) (st : Stage) →
-    sub_steps m whole st ≡ picks m st ++ sounded m whole ∷ after_sound m whole st
-sub_steps_are m whole st =
-    ap (λ ms. picks m st ++ sounded m whole ∷ ms) (same_after_picks m whole (playing_streams_on m.endpoint st) st)
 
 -- each moment of a woven list
 pub moment : (st : Stage) (due before rest : List Move) → Phase st due → IsStage st → IsWoven st due (before ++ rest) →
@@ -218,10 +208,16 @@ ends_picks : (m : Mixing) (whole : Bool) (left : List Stream) →
 ends_picks m whole [] = (refl, refl)
 ends_picks m whole (s ∷ left) = ends_picks m whole left
 
-ends_retires : (m : Mixing) (left : List Stream) →
-    (ends (retires_left m left) ≡ true) × (frames_ahead (retires_left m left) ≡ m.frames)
-ends_retires m [] = (refl, refl)
-ends_retires m (s ∷ left) = ends_retires m left
+ends_hears : (m : Mixing) (frames : List Frame) (left : List Stream) →
+    (ends (hears_left m frames left) ≡ true) × (frames_ahead (hears_left m frames left) ≡ m.frames)
+ends_hears m frames [] = (refl, refl)
+ends_hears m frames (s ∷ left) = ends_hears m frames left
+
+ends_retires : (m : Mixing) (frames : List Frame) (hearing left : List Stream) →
+    (ends (retires_left m frames hearing left) ≡ true)
+    × (frames_ahead (retires_left m frames hearing left) ≡ m.frames)
+ends_retires m frames hearing [] = ends_hears m frames hearing
+ends_retires m frames hearing (s ∷ left) = ends_retires m frames hearing left
 
 ends_closes : (m : Mixing) (left : List Stream) →
     (ends (closes_left m left) ≡ true) × (frames_ahead (closes_left m left) ≡ m.frames)
@@ -247,14 +243,20 @@ fits_by m due rest left st d p w h =
     let e : frames_ahead rest ≡ m.frames = ahead st due rest (ap ends d ∙ p.0) w ∙ ap frames_ahead d ∙ p.1 in
     all_weaker (λ s. s.picked ≤ m.frames) (FitsAhead rest) (λ s l. omega arith) st.streams h
 
+rests_fit : (rest : List Move) (streams : List Stream) → AllByRecursion Rests streams →
+    AllByRecursion (FitsAhead rest) streams
+rests_fit rest streams h = all_weaker Rests (FitsAhead rest) (λ s z. omega arith) streams h
+
 phase_fits : (st : Stage) (due rest : List Move) → Phase st due → IsWoven st due rest →
     AllByRecursion (FitsAhead rest) st.streams
-phase_fits st due rest (idle k) w = all_weaker Rests (FitsAhead rest) (λ s z. omega arith) st.streams k.rests
+phase_fits st due rest (idle k) w = rests_fit rest st.streams k.rests
+phase_fits st due rest (feeding m e frames left k) w = rests_fit rest st.streams k.rests
+phase_fits st due rest (recording frames left k) w = rests_fit rest st.streams k.rests
 phase_fits st due rest (picking m e whole left k) w =
     fits_by m due rest (picks_left m whole left) st k.due_is (ends_picks m whole left) w
     (all_weaker (MayBePicked m) (λ s. s.picked ≤ m.frames) (may_fit m) st.streams k.held)
-phase_fits st due rest (retiring m e left k) w =
-    fits_by m due rest (retires_left m left) st k.due_is (ends_retires m left) w
+phase_fits st due rest (retiring m e frames hearing left k) w =
+    fits_by m due rest (retires_left m frames hearing left) st k.due_is (ends_retires m frames hearing left) w
     (all_weaker (MayBeLeft m left) (λ s. s.picked ≤ m.frames) (left_fit m left) st.streams k.held)
 phase_fits st due rest (closing m left k) w =
     fits_by m due rest (closes_left m left) st k.due_is (ends_closes m left) w

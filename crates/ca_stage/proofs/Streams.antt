@@ -18,6 +18,10 @@ pub moved_endpoint : (m : StreamMove) (s : Stream) → (moved m s).endpoint ≡ 
 moved_endpoint started s = refl
 moved_endpoint _ s = refl
 
+pub moved_kind : (m : StreamMove) (s : Stream) → (moved m s).kind ≡ s.kind
+moved_kind started s = refl
+moved_kind _ s = refl
+
 pub moved_channels : (m : StreamMove) (s : Stream) → (moved m s).channels ≡ s.channels
 moved_channels started s = refl
 moved_channels _ s = refl
@@ -33,6 +37,9 @@ after_client x s = after_keeps (λ t. t.client) moved_client x s
 
 pub after_endpoint : (x : Move) (s : Stream) → (stream_after x s).endpoint ≡ s.endpoint
 after_endpoint x s = after_keeps (λ t. t.endpoint) moved_endpoint x s
+
+pub after_kind : (x : Move) (s : Stream) → (stream_after x s).kind ≡ s.kind
+after_kind x s = after_keeps (λ t. t.kind) moved_kind x s
 
 -- what a move of an open stream carries on, each move does
 pub after_carries : (P : Stream → Type 0) →

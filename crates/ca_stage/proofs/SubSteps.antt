@@ -1,31 +1,48 @@
 -- The sub-steps of a period, one after another: what each finds, and the phase after it.
-use Rattle.std.proofs.Common.{◌≡◌, ℕ, ◌==◌, ◌&&◌, ◌||◌, ◌⊎◌, inl, inr, List, [], ◌∷◌, Bool, true, false, Option, Some}
-use Rattle.std.proofs.Common.{None, refl, sym, ap, ◌∙◌, subst, arith, eqb-true, eq-eqb}
+use Rattle.std.proofs.Common.{◌≡◌, ℕ, ◌==◌, ◌&&◌, ◌||◌, ◌⊎◌, inl, inr, List, [], ◌∷◌, filter, Bool, true, false}
+use Rattle.std.proofs.Common.{Option, Some, None, refl, sym, ap, ◌∙◌, subst, arith, eqb-true, eq-eqb}
 use Rattle.std.proofs.lemmas.Bool.{false≢true, or_left, or_right, and_parts, and_from, both_ways, cases_Bool}
 use Rattle.std.specs.List.{AllByRecursion}
 use Rattle.ca_base.specs.declared.ids.Reason.TheVariants.{Removal}
-use Rattle.ca_stage.specs.Stage.{Stream, Playhead, Stage, is_open, is_render}
-use Rattle.ca_stage.specs.Moves.{StreamMove, closed, picked, retired, Move, of_client, sounded, finished, Mixing, moved}
-use Rattle.ca_stage.specs.Moves.{is_open_of, stream_after, has_stream, after_move, playhead_at, is_playing, is_open_on}
-use Rattle.ca_stage.specs.Moves.{playing_streams_on, open_streams_on}
-use Rattle.ca_stage.specs.Woven.{due_after}
+use Rattle.ca_stage.specs.Stage.{Frame, Stream, Playhead, Stage, is_open, is_render}
+use Rattle.ca_stage.specs.Moves.{StreamMove, closed, picked, retired, fed, Move, of_client, sounded, finished, captured}
+use Rattle.ca_stage.specs.Moves.{Mixing, moved, is_open_of, stream_after, has_stream, after_move, playhead_at}
+use Rattle.ca_stage.specs.Periods.{is_playing, is_open_on, is_hearing, is_recording, playing_streams_on}
+use Rattle.ca_stage.specs.Periods.{open_streams_on, after_sound}
+use Rattle.ca_stage.specs.Mix.{mixed}
+use Rattle.ca_stage.specs.Woven.{due_after, due_of}
 use Rattle.ca_stage.specs.Order.{Rests}
 use Rattle.ca_stage.proofs.Lists.{chosen_by, all-map, all_weaker, all_both, cons_parts}
 use Rattle.ca_stage.proofs.Playheads.{playhead_stays}
-use Rattle.ca_stage.proofs.Phases.{MayBePicked, MayBeLeft, PlaysIfLeft, picks_left, retires_left, closes_left}
-use Rattle.ca_stage.proofs.Phases.{IsPicking, IsRetiring, IsClosing, Phase, idle, picking, retiring, closing}
-use Rattle.ca_stage.proofs.Phases.{passing_in}
+use Rattle.ca_stage.proofs.Phases.{MayBePicked, MayBeLeft, PlaysIfLeft, picks_left, feeds_left, hears_left}
+use Rattle.ca_stage.proofs.Phases.{retires_left, closes_left, IsPicking, IsRetiring, IsFeeding, IsRecording, IsClosing}
+use Rattle.ca_stage.proofs.Phases.{Phase, idle, picking, retiring, feeding, recording, closing, passing_in, all_moved}
 
 -- the mixing of the whole Sound of the period that is under way, once it was made
 abbrev pub in_air : List Move → Option Mixing
 in_air [] = None
 in_air (of_client client retired ∷ due) = in_air due
+in_air (of_client client (fed frames) ∷ due) = in_air due
 in_air (finished m true ∷ due) = Some m
 in_air (_ ∷ due) = None
 
-pub air_retiring : (m : Mixing) (left : List Stream) → in_air (retires_left m left) ≡ Some m
-air_retiring m [] = refl
-air_retiring m (s ∷ left) = air_retiring m left
+pub air_feeding : (m : Mixing) (frames : List Frame) (left : List Stream) → in_air (hears_left m frames left) ≡ Some m
+air_feeding m frames [] = refl
+air_feeding m frames (s ∷ left) = air_feeding m frames left
+
+pub air_retiring : (m : Mixing) (frames : List Frame) (hearing left : List Stream) →
+    in_air (retires_left m frames hearing left) ≡ Some m
+air_retiring m frames hearing [] = air_feeding m frames hearing
+air_retiring m frames hearing (s ∷ left) = air_retiring m frames hearing left
+
+pub air_recording : (frames : List Frame) (left : List Stream) → in_air (feeds_left frames left) ≡ None
+air_recording frames [] = refl
+air_recording frames (s ∷ left) = air_recording frames left
+
+-- after a move that is no sub-step no Sound is in the air
+pub air_of_due : (st : Stage) (x : Move) → in_air (due_of st x) ≡ None
+air_of_due st (captured number frames) = air_recording frames (filter (is_recording number) st.streams)
+air_of_due st _ = refl
 
 pub air_closing : (m : Mixing) (left : List Stream) → in_air (closes_left m left) ≡ None
 air_closing m [] = refl
@@ -35,6 +52,12 @@ pub air_picking : (m : Mixing) (whole : Bool) (left : List Stream) → in_air (p
 air_picking m whole [] = refl
 air_picking m whole (s ∷ left) = refl
 
+-- after a whole Sound its mixing is in the air
+pub air_sounded : (m : Mixing) (st : Stage) → in_air (after_sound m true st) ≡ Some m
+air_sounded m st =
+    air_retiring m (mixed m st.streams) (filter (is_hearing m.endpoint) st.streams)
+    (playing_streams_on m.endpoint st)
+
 -- what a sub-step finds, with what is due behind it
 pub data SubStep (st : Stage) (x : Move) (due : List Move) : Type 0 where
   picks_one : (n k : ℕ) → x ≡ of_client n (picked k) → in_air due ≡ None → SubStep st x due
@@ -43,6 +66,7 @@ pub data SubStep (st : Stage) (x : Move) (due : List Move) : Type 0 where
   sounds_failed : (m : Mixing) → x ≡ sounded m false → SubStep st x due
   retires_one : (m : Mixing) (e : Playhead) (n : ℕ) → playhead_at m.endpoint st ≡ Some e → x ≡ of_client n retired →
       in_air due ≡ Some m → AllByRecursion (MayBePicked m) st.streams → SubStep st x due
+  feeds_one : (n : ℕ) (frames : List Frame) → x ≡ of_client n (fed frames) → SubStep st x due
   closes_one : (n : ℕ) → x ≡ of_client n (closed Removal) → in_air due ≡ None → SubStep st x due
   finishes_whole : (m : Mixing) (e : Playhead) → playhead_at m.endpoint st ≡ Some e → x ≡ finished m true →
       due ≡ [] → AllByRecursion Rests st.streams → SubStep st x due
@@ -117,18 +141,18 @@ sound_step : (st : Stage) (due : List Move) (m : Mixing) (e : Playhead) (whole :
     playhead_at m.endpoint st ≡ Some e → AllByRecursion (MayBePicked m) st.streams → Goes st (sounded m whole) due
 sound_step st due m e true there held = record {
   sub_step = sounds_whole m e there refl held;
-  phase = retiring m e (playing_streams_on m.endpoint st) (record {
+  phase = retiring m e (mixed m st.streams) (filter (is_hearing m.endpoint) st.streams) all (record {
     there = playhead_stays m.endpoint st (sounded m true) refl ∙ there;
     due_is = refl;
     held =
-        all-map (MayBeLeft m (playing_streams_on m.endpoint st)) (MayBeLeft m (playing_streams_on m.endpoint st))
-        (stream_after (sounded m true)) (λ s h. h) st.streams
-        (all_both (MayBePicked m)
-        (λ s. is_playing m.endpoint s ≡ true → has_stream s.client (playing_streams_on m.endpoint st) ≡ true)
-        (MayBeLeft m (playing_streams_on m.endpoint st)) (left_playing m (playing_streams_on m.endpoint st)) st.streams
-        held (passing_in (is_playing m.endpoint) st.streams));
+        all-map (MayBeLeft m all) (MayBeLeft m all) (stream_after (sounded m true)) (λ s h. h) st.streams
+        (all_both (MayBePicked m) (λ s. is_playing m.endpoint s ≡ true → has_stream s.client all ≡ true)
+        (MayBeLeft m all) (left_playing m all) st.streams held (passing_in (is_playing m.endpoint) st.streams));
   });
 }
+  where
+    all : List Stream
+    all = playing_streams_on m.endpoint st
 sound_step st due m e false there held = record {
   sub_step = sounds_failed m refl;
   phase = closing m (open_streams_on m.endpoint st) (record {
@@ -169,14 +193,15 @@ forget_left : (m : Mixing) (left : List Stream) (s : Stream) → MayBeLeft m lef
 forget_left m left s (inl z) = inl z
 forget_left m left s (inr p) = inr p.0
 
-retire_step : (st : Stage) (due : List Move) (m : Mixing) (e : Playhead) (t : Stream) (left : List Stream) →
-    playhead_at m.endpoint st ≡ Some e → due ≡ retires_left m left →
-    AllByRecursion (MayBeLeft m (t ∷ left)) st.streams → Goes st (of_client t.client retired) due
-retire_step st due m e t left there d held = record {
+retire_step : (st : Stage) (due : List Move) (m : Mixing) (e : Playhead) (frames : List Frame) (hearing : List Stream)
+    (t : Stream) (left : List Stream) → playhead_at m.endpoint st ≡ Some e →
+    due ≡ retires_left m frames hearing left → AllByRecursion (MayBeLeft m (t ∷ left)) st.streams →
+    Goes st (of_client t.client retired) due
+retire_step st due m e frames hearing t left there d held = record {
   sub_step =
-      retires_one m e t.client there refl (ap in_air d ∙ air_retiring m left)
+      retires_one m e t.client there refl (ap in_air d ∙ air_retiring m frames hearing left)
       (all_weaker (MayBeLeft m (t ∷ left)) (MayBePicked m) (forget_left m (t ∷ left)) st.streams held);
-  phase = retiring m e left (record {
+  phase = retiring m e frames hearing left (record {
     there = playhead_stays m.endpoint st (of_client t.client retired) refl ∙ there;
     due_is = d;
     held =
@@ -197,18 +222,42 @@ close_step st due m t left d held = record {
   });
 }
 
+-- Feed
+fed_rests : (n : ℕ) (frames : List Frame) (st : Stage) → AllByRecursion Rests st.streams →
+    AllByRecursion Rests (after_move st (of_client n (fed frames))).streams
+fed_rests n frames st h = all_moved Rests Rests st n (fed frames) (λ s z. z) (λ s z. z) h
+
+feed_step : (st : Stage) (due : List Move) (m : Mixing) (e : Playhead) (frames : List Frame) (t : Stream)
+    (left : List Stream) → playhead_at m.endpoint st ≡ Some e → due ≡ hears_left m frames left →
+    AllByRecursion Rests st.streams → Goes st (of_client t.client (fed frames)) due
+feed_step st due m e frames t left there d rests = record {
+  sub_step = feeds_one t.client frames refl;
+  phase = feeding m e frames left (record {
+    there = playhead_stays m.endpoint st (of_client t.client (fed frames)) refl ∙ there;
+    due_is = d;
+    rests = fed_rests t.client frames st rests;
+  });
+}
+
+record_step : (st : Stage) (due : List Move) (frames : List Frame) (t : Stream) (left : List Stream) →
+    due ≡ feeds_left frames left → AllByRecursion Rests st.streams → Goes st (of_client t.client (fed frames)) due
+record_step st due frames t left d rests = record {
+  sub_step = feeds_one t.client frames refl;
+  phase = recording frames left (record { due_is = d; rests = fed_rests t.client frames st rests });
+}
+
 -- Finish
 none_left : (m : Mixing) (s : Stream) → MayBeLeft m [] s → Rests s
 none_left m s (inl z) = z
 none_left m s (inr p) = absurd (false≢true p.1)
 
 finish_step : (st : Stage) (due : List Move) (m : Mixing) (e : Playhead) → playhead_at m.endpoint st ≡ Some e →
-    due ≡ [] → AllByRecursion (MayBeLeft m []) st.streams → Goes st (finished m true) due
-finish_step st due m e there d held = record {
-  sub_step = finishes_whole m e there refl d (all_weaker (MayBeLeft m []) Rests (none_left m) st.streams held);
+    due ≡ [] → AllByRecursion Rests st.streams → Goes st (finished m true) due
+finish_step st due m e there d rests = record {
+  sub_step = finishes_whole m e there refl d rests;
   phase = idle (record {
     due_is = d;
-    rests = all-map (MayBeLeft m []) Rests (stream_after (finished m true)) (none_left m) st.streams held;
+    rests = all-map Rests Rests (stream_after (finished m true)) (λ s z. z) st.streams rests;
   });
 }
 
@@ -236,14 +285,34 @@ next_picking st x due m e whole (t ∷ left) k =
     at_move st x (of_client t.client (picked m.frames)) due p.0
     (pick_step st due m e whole t left k.there p.1 k.held k.plays)
 
-next_retiring : (st : Stage) (x : Move) (due : List Move) (m : Mixing) (e : Playhead) (left : List Stream) →
-    IsRetiring st (x ∷ due) m e left → Goes st x due
-next_retiring st x due m e [] k =
+next_feeding : (st : Stage) (x : Move) (due : List Move) (m : Mixing) (e : Playhead) (frames : List Frame)
+    (left : List Stream) → IsFeeding st (x ∷ due) m e frames left → Goes st x due
+next_feeding st x due m e frames [] k =
     let p = cons_parts x (finished m true) due [] k.due_is in
-    at_move st x (finished m true) due p.0 (finish_step st due m e k.there p.1 k.held)
-next_retiring st x due m e (t ∷ left) k =
-    let p = cons_parts x (of_client t.client retired) due (retires_left m left) k.due_is in
-    at_move st x (of_client t.client retired) due p.0 (retire_step st due m e t left k.there p.1 k.held)
+    at_move st x (finished m true) due p.0 (finish_step st due m e k.there p.1 k.rests)
+next_feeding st x due m e frames (t ∷ left) k =
+    let p = cons_parts x (of_client t.client (fed frames)) due (hears_left m frames left) k.due_is in
+    at_move st x (of_client t.client (fed frames)) due p.0 (feed_step st due m e frames t left k.there p.1 k.rests)
+
+next_recording : (st : Stage) (x : Move) (due : List Move) (frames : List Frame) (left : List Stream) →
+    IsRecording st (x ∷ due) frames left → Goes st x due
+next_recording st x due frames [] k = let e : x ∷ due ≡ [] = k.due_is in absurd cc
+next_recording st x due frames (t ∷ left) k =
+    let p = cons_parts x (of_client t.client (fed frames)) due (feeds_left frames left) k.due_is in
+    at_move st x (of_client t.client (fed frames)) due p.0 (record_step st due frames t left p.1 k.rests)
+
+next_retiring : (st : Stage) (x : Move) (due : List Move) (m : Mixing) (e : Playhead) (frames : List Frame)
+    (hearing left : List Stream) → IsRetiring st (x ∷ due) m e frames hearing left → Goes st x due
+next_retiring st x due m e frames hearing [] k =
+    next_feeding st x due m e frames hearing (record {
+      there = k.there;
+      due_is = k.due_is;
+      rests = all_weaker (MayBeLeft m []) Rests (none_left m) st.streams k.held;
+    })
+next_retiring st x due m e frames hearing (t ∷ left) k =
+    let p = cons_parts x (of_client t.client retired) due (retires_left m frames hearing left) k.due_is in
+    at_move st x (of_client t.client retired) due p.0
+    (retire_step st due m e frames hearing t left k.there p.1 k.held)
 
 next_closing : (st : Stage) (x : Move) (due : List Move) (m : Mixing) (left : List Stream) →
     IsClosing st (x ∷ due) m left → Goes st x due
@@ -257,5 +326,7 @@ next_closing st x due m (t ∷ left) k =
 pub phase_next : (st : Stage) (x : Move) (due : List Move) → Phase st (x ∷ due) → Goes st x due
 phase_next st x due (idle k) = let e : x ∷ due ≡ [] = k.due_is in absurd cc
 phase_next st x due (picking m e whole left k) = next_picking st x due m e whole left k
-phase_next st x due (retiring m e left k) = next_retiring st x due m e left k
+phase_next st x due (retiring m e frames hearing left k) = next_retiring st x due m e frames hearing left k
+phase_next st x due (feeding m e frames left k) = next_feeding st x due m e frames left k
+phase_next st x due (recording frames left k) = next_recording st x due frames left k
 phase_next st x due (closing m left k) = next_closing st x due m left k

@@ -9,7 +9,8 @@ use Rattle.ca_base.specs.declared.limits.TheConstants.{MAX_TALLY}
 use Rattle.volume_stack.specs.Scaling.{unit_gain}
 use Rattle.ca_stage.specs.Stage.{empty_stage, no_data, Frame, Stream, Stage}
 use Rattle.ca_stage.specs.Moves.{leased, released, started, stopped, reset, closed, picked, retired, Move, added}
-use Rattle.ca_stage.specs.Moves.{opened, of_client, sounded, finished, Mixing, after_moves, stream_at, sub_steps}
+use Rattle.ca_stage.specs.Moves.{opened, of_client, sounded, finished, Mixing, after_moves, stream_at}
+use Rattle.ca_stage.specs.Periods.{sub_steps}
 use Rattle.ca_stage.specs.Mix.{mixed}
 use Rattle.ca_stage.specs.Fates.{Rendered, Reset, Dropped, all_released, fates, fates_since, pending_of, next_of}
 use Rattle.ca_stage.specs.Woven.{IsWoven}
@@ -18,7 +19,7 @@ use Rattle.ca_stage.specs.Order.{clients, numbers}
 use Rattle.ca_stage.specs.Present.{present}
 use Rattle.ca_stage.specs.Laws.{sounds, rendered}
 
-abbrev stream_of : StreamKind → ℕ → Stream
+abbrev pub stream_of : StreamKind → ℕ → Stream
 stream_of kind n = record {
   client = n;
   endpoint = 7;
@@ -36,14 +37,17 @@ stream_of kind n = record {
   gate = gate.Open;
   picked = 0;
   position = 0;
+  offered = 0;
+  ever = 0;
+  after_gap = false;
   buffer_data = no_data;
 }
 
-abbrev frame : ℕ → Frame
+abbrev pub frame : ℕ → Frame
 frame n = pos n ∷ []
 
 -- by this mixing nothing is changed, and by that one every frame of client 1 is halved
-abbrev plain : Mixing
+abbrev pub plain : Mixing
 plain = record {
   endpoint = 7;
   frames = 2;
@@ -124,7 +128,15 @@ used = record (stream_of kind.Render 9) {
   gate = gate.Closed Removal;
   picked = 1;
   position = 3;
-  buffer_data = record { pending = frame 1 ∷ []; released = 4; lease = Some 2 };
+  offered = 4;
+  ever = 5;
+  after_gap = true;
+  buffer_data = record {
+    pending = frame 1 ∷ [];
+    packets = record { position = 2; follows_gap = true; frames = frame 2 ∷ [] } ∷ [];
+    released = 4;
+    lease = Some 2;
+  };
 }
 
 opened_anew : stream_at 9 (after_moves empty_stage (opened used ∷ []))
@@ -169,13 +181,13 @@ since_reset = refl
 
 position_2 : stream_at 2 stage_3 ≡ Some (record (stream_of kind.Render 2) {
   position = 2;
-  buffer_data = record { pending = []; released = 2; lease = None };
+  buffer_data = record { pending = []; packets = []; released = 2; lease = None };
 })
 position_2 = refl
 
 position_reset : stream_at 2 stage_5 ≡ Some (record (stream_of kind.Render 2) {
   position = 2;
-  buffer_data = record { pending = frame 26 ∷ []; released = 6; lease = None };
+  buffer_data = record { pending = frame 26 ∷ []; packets = []; released = 6; lease = None };
 })
 position_reset = refl
 
@@ -184,7 +196,7 @@ closed_1 : stream_at 1 stage_4 ≡ Some (record (stream_of kind.Render 1) {
   running = false;
   gate = gate.Closed ReleaseReason;
   position = 4;
-  buffer_data = record { pending = []; released = 6; lease = None };
+  buffer_data = record { pending = []; packets = []; released = 6; lease = None };
 })
 closed_1 = refl
 

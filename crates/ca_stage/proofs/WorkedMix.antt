@@ -26,7 +26,10 @@ voice n endpoint frame = record {
   gate = gate.Open;
   picked = 1;
   position = 0;
-  buffer_data = record { pending = frame ∷ (pos 9 ∷ pos 9 ∷ []) ∷ []; released = 2; lease = None };
+  offered = 0;
+  ever = 0;
+  after_gap = false;
+  buffer_data = record { pending = frame ∷ (pos 9 ∷ pos 9 ∷ []) ∷ []; packets = []; released = 2; lease = None };
 }
 
 abbrev loud : ℕ → ℤ → Stream

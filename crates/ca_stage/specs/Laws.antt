@@ -3,13 +3,16 @@ use Rattle.std.specs.Prelude.{◌≡◌, ℕ, ◌+◌, ◌-◌, ◌<◌, ◌≤�
 use Rattle.std.specs.Prelude.{drop, slice_get, Bool, true, false, Option, Some, None, if◌then◌else◌, sum_by, count_by}
 use Rattle.std.specs.Prelude.{min, flat_map}
 use Rattle.std.specs.List.{AllByRecursion}
+use Rattle.ca_base.specs.declared.ids.StreamKind.{StreamKind}
+use Rattle.ca_base.specs.declared.ids.StreamKind.TheVariants as kind
 use Rattle.ca_base.specs.declared.limits.TheConstants.{MAX_TALLY}
 use Rattle.ca_stage.specs.Stage.{empty_stage, Frame, Stream, Playhead, Stage, padding, is_open}
-use Rattle.ca_stage.specs.Moves.{sub_steps, after_period, Move, sounded, Mixing, after_move, after_moves, playhead_at}
-use Rattle.ca_stage.specs.Moves.{stream_at}
+use Rattle.ca_stage.specs.Moves.{Move, captured, sounded, Mixing, after_move, after_moves, playhead_at, stream_at}
+use Rattle.ca_stage.specs.Periods.{sub_steps, captures, after_period, after_captures}
 use Rattle.ca_stage.specs.Mix.{due_frames, streams_on, mix_of, mixed}
 use Rattle.ca_stage.specs.Fates.{Fate, next_of, pending_of, all_released, fates, fates_since, is_rendered, is_reset}
 use Rattle.ca_stage.specs.Fates.{is_dropped, places_of, having}
+use Rattle.ca_stage.specs.Packets.{PacketBook, book, packets_marked, is_pending, is_read, all_read}
 use Rattle.ca_stage.specs.Woven.{IsWoven}
 use Rattle.ca_stage.specs.Tally.{Tally, no_tally, tally_after}
 use Rattle.ca_stage.specs.Order.{AreFrames, clients, IsWithout, AreDistinct, RisesFrom, IsStage, Rests, frames_ahead}
@@ -181,6 +184,15 @@ pub record IsOneMap (m : Mixing) (whole : Bool) (st : Stage) : Type 0 where
 abbrev pub PeriodIsOneMap : Type 0
 PeriodIsOneMap = (m : Mixing) (whole : Bool) (xs : List Move) → IsOneMap m whole (after_moves empty_stage xs)
 
+-- and so is a period of an endpoint that captures
+pub record IsOneFeed (number : ℕ) (frames : List Frame) (st : Stage) : Type 0 where
+  pub woven : IsWoven st [] (captures number frames st)
+  pub stage : after_moves st (captures number frames st) ≡ after_captures number frames st
+
+abbrev pub CaptureIsOneMap : Type 0
+CaptureIsOneMap = (number : ℕ) (frames : List Frame) (xs : List Move) →
+    IsOneFeed number frames (after_moves empty_stage xs)
+
 -- the places of a stream's rendered frames rise
 abbrev pub PlacesRise : Type 0
 PlacesRise = (n : ℕ) (xs : List Move) → IsWoven empty_stage [] xs → RisesFrom 0 (places_of (fates n empty_stage xs))
@@ -220,3 +232,45 @@ abbrev pub PresentGoesOn : Type 0
 PresentGoesOn = (numbers : List ℕ) (before rest : List Move) → AllByRecursion (OpensPresent numbers) rest →
     present numbers (after_moves empty_stage (before ++ rest))
     ≡ after_moves (present numbers (after_moves empty_stage before)) rest
+
+-- 5. Packets. What waits in a stream are the packets of its book that are pending, and its counts are those of the book
+pub record IsBooked (s : Stream) (b : PacketBook) : Type 0 where
+  pub waits : s.buffer_data.packets ≡ packets_marked is_pending b.offers
+  pub offered : s.offered ≡ b.offered
+  pub after_gap : s.after_gap ≡ b.after_gap
+  pub ever : s.ever ≡ sum_by (λ o. length o.packet.frames) b.offers
+
+abbrev pub Booked : Type 0
+Booked = (n : ℕ) (s : Stream) (xs : List Move) →
+    stream_at n (after_moves empty_stage xs) ≡ Some s → IsBooked s (book n empty_stage xs)
+
+-- the packets that were read are those that are marked so, in the order in which they were offered
+abbrev pub ReadInOrder : Type 0
+ReadInOrder = (n : ℕ) (xs : List Move) →
+    all_read n empty_stage xs ≡ packets_marked is_read (book n empty_stage xs).offers
+
+-- a whole Sound of an endpoint wrote these frames; an endpoint's device gave them
+pub record WasWritten (number : ℕ) (xs : List Move) (frames : List Frame) : Type 0 where
+  pub before : List Move
+  pub mixing : Mixing
+  pub rest : List Move
+  pub stands : xs ≡ before ++ sounded mixing true ∷ rest
+  pub endpoint : mixing.endpoint ≡ number
+  pub frames_are : frames ≡ mixed mixing (after_moves empty_stage before).streams
+
+pub record WasGiven (number : ℕ) (xs : List Move) (frames : List Frame) : Type 0 where
+  pub before : List Move
+  pub rest : List Move
+  pub stands : xs ≡ before ++ captured number frames ∷ rest
+
+-- where a packet's frames are from: a stream that hears an endpoint gets what one Sound of it wrote, one that records
+-- it what its device gave, and one that plays gets none
+abbrev pub IsFrom : StreamKind → ℕ → List Move → List Frame → Type 0
+IsFrom kind.Loopback number xs frames = WasWritten number xs frames
+IsFrom kind.Capture number xs frames = WasGiven number xs frames
+IsFrom kind.Render number xs frames = ⊥
+
+abbrev pub PacketsComeFrom : Type 0
+PacketsComeFrom = (n : ℕ) (s : Stream) (xs : List Move) → IsWoven empty_stage [] xs →
+    stream_at n (after_moves empty_stage xs) ≡ Some s →
+    AllByRecursion (λ o. IsFrom s.kind s.endpoint xs o.packet.frames) (book n empty_stage xs).offers

@@ -1,7 +1,10 @@
 pub mod Stage
 pub mod Moves
 pub mod Mix
+pub mod Periods
+pub mod Given
 pub mod Fates
+pub mod Packets
 pub mod Woven
 pub mod Tally
 pub mod Order

@@ -1,11 +1,10 @@
 -- Moves: what events do to the stage (this project's own). A refused event makes none, a period makes its sub-steps.
-use Rattle.std.specs.Prelude.{ℕ, ◌+◌, ◌==◌, ◌&&◌, nat_lt, min, List, [], ◌∷◌, ◌++◌, length, map, drop, filter, Bool}
+use Rattle.std.specs.Prelude.{ℕ, ◌+◌, ◌==◌, ◌&&◌, not, nat_lt, min, List, [], ◌∷◌, ◌++◌, length, map, drop, Bool}
 use Rattle.std.specs.Prelude.{true, false, Option, Some, None, if◌then◌else◌}
 use Rattle.std.specs.List.{list_any, find}
 use Rattle.ca_base.specs.declared.ids.Reason.{Reason}
-use Rattle.ca_base.specs.declared.ids.Reason.TheVariants.{Removal}
 use Rattle.ca_base.specs.declared.ids.Gate.TheVariants as gate
-use Rattle.ca_stage.specs.Stage.{Frame, Stream, Playhead, Stage, no_data, padding, is_open, is_render}
+use Rattle.ca_stage.specs.Stage.{Frame, Packet, Stream, Playhead, Stage, no_data, padding, packet_room, is_open}
 
 -- what a period mixes by: the number of its endpoint, how many frames it plays, their channels, the gain of a client's
 -- channel, and the gain of the endpoint's channel. A gain is from 0 to 65536
@@ -18,17 +17,20 @@ pub record Mixing : Type 0 where
 
 -- a move of one stream
 pub data StreamMove : Type 0 where
-  -- by a data call: frames are leased; frames are released, and the lease ends
+  -- by a data call: frames are leased; frames are released, or so many packets are read, and the lease ends
   leased : ℕ → StreamMove
   released : List Frame → StreamMove
+  read : ℕ → StreamMove
   -- by a control call or a device: Start, Stop, Reset, and a close
   started : StreamMove
   stopped : StreamMove
   reset : StreamMove
   closed : Reason → StreamMove
-  -- by a period: at most this many of the first pending frames are due; the frames that were due are rendered
+  -- by a period: at most this many of the first pending frames are due; the frames that were due are rendered; these
+  -- frames are offered as a packet
   picked : ℕ → StreamMove
   retired : StreamMove
+  fed : List Frame → StreamMove
 
 pub data Move : Type 0 where
   -- an endpoint of this number is added
@@ -40,31 +42,60 @@ pub data Move : Type 0 where
   -- the frames that are due are mixed and written, and the device took all of them, or failed; the period ends
   sounded : Mixing → Bool → Move
   finished : Mixing → Bool → Move
+  -- an endpoint's device gave these frames
+  captured : ℕ → List Frame → Move
+
+-- whether the store has room for a packet more, and the packets once these frames were offered as one: it waits behind
+-- the others, or is lost if there is no room
+abbrev pub has_room : Stream → Bool
+has_room s = nat_lt (length s.buffer_data.packets) (packet_room s)
+
+abbrev pub packets_with : List Frame → Stream → List Packet
+packets_with frames s =
+    if has_room s
+    then s.buffer_data.packets
+    ++ record { position = s.offered; follows_gap = s.after_gap; frames = frames } ∷ []
+    else s.buffer_data.packets
 
 -- what a move of a stream makes of it. A close leaves the lease
 abbrev pub moved : StreamMove → Stream → Stream
 moved (leased n) s = record s { buffer_data = record (s.buffer_data) { lease = Some n } }
 moved (released frames) s = record s {
-  buffer_data = record {
+  buffer_data = record (s.buffer_data) {
     pending = s.buffer_data.pending ++ frames;
     released = s.buffer_data.released + length frames;
     lease = None;
   };
 }
+moved (read n) s = record s {
+  buffer_data = record (s.buffer_data) { packets = drop n s.buffer_data.packets; lease = None };
+}
 moved started s = record s { running = true }
 moved stopped s = record s { running = false }
-moved reset s = record s { picked = 0; position = 0; buffer_data = record (s.buffer_data) { pending = [] } }
+moved reset s = record s {
+  picked = 0;
+  position = 0;
+  offered = 0;
+  after_gap = false;
+  buffer_data = record (s.buffer_data) { pending = []; packets = [] };
+}
 moved (closed reason) s = record s {
   gate = gate.Closed reason;
   running = false;
   picked = 0;
-  buffer_data = record (s.buffer_data) { pending = [] };
+  buffer_data = record (s.buffer_data) { pending = []; packets = [] };
 }
 moved (picked n) s = record s { picked = min n (padding s) }
 moved retired s = record s {
   picked = 0;
   position = s.position + s.picked;
   buffer_data = record (s.buffer_data) { pending = drop s.picked s.buffer_data.pending };
+}
+moved (fed frames) s = record s {
+  offered = s.offered + length frames;
+  ever = s.ever + length frames;
+  after_gap = not (has_room s);
+  buffer_data = record (s.buffer_data) { packets = packets_with frames s };
 }
 
 -- whether a stream is the open one of this client: nothing else of a client can be moved
@@ -94,9 +125,18 @@ with_added (added number) heads =
     if has_playhead number heads then heads else heads ++ record { number = number; next = 0 } ∷ []
 with_added _ heads = heads
 
--- a stream as it is opened: its gate is open, it doesn't run, and nothing was ever released to it
+-- a stream as it is opened: its gate is open, it doesn't run, and nothing was ever released or offered to it
 abbrev pub as_opened : Stream → Stream
-as_opened s = record s { running = false; gate = gate.Open; picked = 0; position = 0; buffer_data = no_data }
+as_opened s = record s {
+  running = false;
+  gate = gate.Open;
+  picked = 0;
+  position = 0;
+  offered = 0;
+  ever = 0;
+  after_gap = false;
+  buffer_data = no_data;
+}
 
 -- a stream set before the first one whose client has a greater number
 abbrev pub inserted : Stream → List Stream → List Stream
@@ -125,45 +165,3 @@ playhead_at number st = find (λ e. e.number == number) st.playheads
 
 abbrev pub stream_at : ℕ → Stage → Option Stream
 stream_at client st = find (λ s. s.client == client) st.streams
-
--- the streams that a period of an endpoint plays: the open render streams on it that run; and all open streams on it
-abbrev pub is_playing : ℕ → Stream → Bool
-is_playing number s = s.endpoint == number && (is_open s && (s.running && is_render s.kind))
-
-abbrev pub playing_streams_on : ℕ → Stage → List Stream
-playing_streams_on number st = filter (is_playing number) st.streams
-
-abbrev pub is_open_on : ℕ → Stream → Bool
-is_open_on number s = s.endpoint == number && is_open s
-
-abbrev pub open_streams_on : ℕ → Stage → List Stream
-open_streams_on number st = filter (is_open_on number) st.streams
-
--- the sub-steps of a period before its Sound
-abbrev pub picks : Mixing → Stage → List Move
-picks m st = map (λ s. of_client s.client (picked m.frames)) (playing_streams_on m.endpoint st)
-
--- and after it, by the stage at the Sound: what was due is rendered, or the device failed and the streams are closed
-abbrev pub after_sound : Mixing → Bool → Stage → List Move
-after_sound m true st = map (λ s. of_client s.client retired) (playing_streams_on m.endpoint st) ++ finished m true ∷ []
-after_sound m false st =
-    map (λ s. of_client s.client (closed Removal)) (open_streams_on m.endpoint st) ++ finished m false ∷ []
-
--- the sub-steps of a period, with nothing between them
-abbrev pub sub_steps : Mixing → Bool → Stage → List Move
-sub_steps m whole st = picks m st ++ sounded m whole ∷ after_sound m whole (after_moves st (picks m st))
-
--- what a whole period makes of a stream, and what a failed one does
-abbrev pub played : Mixing → Stream → Stream
-played m s = if is_playing m.endpoint s then moved retired (moved (picked m.frames) s) else s
-
-abbrev pub failed : Mixing → Stream → Stream
-failed m s = if is_open_on m.endpoint s then moved (closed Removal) s else s
-
--- the stage after a period with nothing between its sub-steps
-abbrev pub after_period : Mixing → Bool → Stage → Stage
-after_period m true st = record {
-  playheads = map (playhead_after (finished m true)) st.playheads;
-  streams = map (played m) st.streams;
-}
-after_period m false st = record st { streams = map (failed m) st.streams }

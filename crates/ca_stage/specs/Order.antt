@@ -32,6 +32,7 @@ RisesFrom low (n ∷ ns) = (low ≤ n) × RisesFrom (suc n) ns
 -- a stream that holds nothing and doesn't run
 pub record IsStill (s : Stream) : Type 0 where
   pub empty : s.buffer_data.pending ≡ []
+  pub no_packets : s.buffer_data.packets ≡ []
   pub rests : s.running ≡ false
   pub unpicked : s.picked ≡ 0
 

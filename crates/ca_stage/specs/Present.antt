@@ -1,8 +1,9 @@
 -- The part of a stage that is still there: the streams of clients that are not released (this project's own).
 use Rattle.std.specs.Prelude.{◌≡◌, ℕ, List, filter, Bool, true, false}
 use Rattle.std.specs.List.{AllByRecursion}
-use Rattle.ca_stage.specs.Stage.{Stream, Stage, is_open}
-use Rattle.ca_stage.specs.Moves.{sub_steps, Move, opened, Mixing, stream_at, playing_streams_on, open_streams_on}
+use Rattle.ca_stage.specs.Stage.{Frame, Stream, Stage, is_open}
+use Rattle.ca_stage.specs.Moves.{Move, opened, Mixing, stream_at}
+use Rattle.ca_stage.specs.Periods.{captures, sub_steps, playing_streams_on, open_streams_on}
 use Rattle.ca_stage.specs.Mix.{streams_on, due_frames, mixed}
 use Rattle.ca_stage.specs.Tally.{Tally, tally_by}
 use Rattle.ca_stage.specs.Order.{is_among}
@@ -27,6 +28,8 @@ pub record IsWhole (numbers : List ℕ) (st : Stage) : Type 0 where
       due_frames i (streams_on endpoint (present numbers st).streams) ≡ due_frames i (streams_on endpoint st.streams)
   pub mixes : (m : Mixing) → mixed m (present numbers st).streams ≡ mixed m st.streams
   pub periods : (m : Mixing) (whole : Bool) → sub_steps m whole (present numbers st) ≡ sub_steps m whole st
+  pub feeds : (endpoint : ℕ) (frames : List Frame) →
+      captures endpoint frames (present numbers st) ≡ captures endpoint frames st
   pub found : (n : ℕ) → is_among n numbers ≡ true → stream_at n (present numbers st) ≡ stream_at n st
   pub tallies : (x : Move) (t : Tally) → tally_by (present numbers st) x t ≡ tally_by st x t
 

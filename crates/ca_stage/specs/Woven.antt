@@ -3,13 +3,16 @@
 use Rattle.std.specs.Prelude.{◌≡◌, List, [], ◌∷◌, ◌++◌, Bool, true, false, Some}
 use Rattle.std.specs.Bool.{MatchBool}
 use Rattle.ca_stage.specs.Stage.{Playhead, Stage}
-use Rattle.ca_stage.specs.Moves.{StreamMove, leased, released, picked, retired, Move, of_client, sounded, finished}
-use Rattle.ca_stage.specs.Moves.{Mixing, after_move, playhead_at, picks, after_sound}
+use Rattle.ca_stage.specs.Moves.{StreamMove, leased, released, read, picked, retired, fed, Move, of_client, sounded}
+use Rattle.ca_stage.specs.Moves.{finished, captured}
+use Rattle.ca_stage.specs.Moves.{Mixing, after_move, playhead_at}
+use Rattle.ca_stage.specs.Periods.{picks, after_sound, feeds, is_recording}
 
 -- data calls make these, which may stand between the sub-steps of a period
 abbrev pub is_data_move : StreamMove → Bool
 is_data_move (leased n) = true
 is_data_move (released frames) = true
+is_data_move (read n) = true
 is_data_move _ = false
 
 abbrev pub is_data : Move → Bool
@@ -20,6 +23,7 @@ is_data _ = false
 abbrev pub is_period_move : StreamMove → Bool
 is_period_move (picked n) = true
 is_period_move retired = true
+is_period_move (fed frames) = true
 is_period_move _ = false
 
 abbrev pub is_sub_step : Move → Bool
@@ -41,10 +45,17 @@ abbrev pub due_after : Stage → Move → List Move → List Move
 due_after st (sounded m whole) due = after_sound m whole st
 due_after st _ due = due
 
--- if no period is under way, a move begins one, of which the rest is due; or it is no sub-step, and nothing is due
+-- what is due once a move is made that is no sub-step: where a device gave frames, they are offered to those that
+-- record it
+abbrev pub due_of : Stage → Move → List Move
+due_of st (captured number frames) = feeds (is_recording number) frames st
+due_of st _ = []
+
+-- if no period is under way, a move begins one, of which the rest is due; or it is no sub-step
 abbrev pub Begins : Stage → Move → (List Move → Type 0) → Type 0
 Begins st x GoesOn =
-    MatchBool (is_sub_step x) ((due : List Move) × IsPeriod st (x ∷ due) × GoesOn (due_after st x due)) (GoesOn [])
+    MatchBool (is_sub_step x) ((due : List Move) × IsPeriod st (x ∷ due) × GoesOn (due_after st x due))
+    (GoesOn (due_of st x))
 
 -- in a period, a data call leaves due what is due, and any other move is the next that is due
 abbrev pub Continues : Stage → Move → Move → List Move → (List Move → Type 0) → Type 0

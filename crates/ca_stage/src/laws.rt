@@ -1,9 +1,10 @@
 //! The laws of the stage, each the contract of an empty function. But for the last two they speak of every list of
-//! moves from the empty stage, and those on places of every woven one.
-ghost use Rattle.ca_stage.specs.Laws.{ClosedIsEmpty, Conservation, Counts, EachClientOnce, EachPlaceOnce, FramesFit};
+//! moves from the empty stage, and those on places, and on where packets come from, of every woven one.
+ghost use Rattle.ca_stage.specs.Laws.{Booked, CaptureIsOneMap, ClosedIsEmpty, Conservation, Counts, EachClientOnce};
+ghost use Rattle.ca_stage.specs.Laws.{EachPlaceOnce, FramesFit};
 ghost use Rattle.ca_stage.specs.Laws.{MixSums, NothingAhead, OneSound, PeriodIsOneMap, PicksFit, PlacesRise, Positions};
 ghost use Rattle.ca_stage.specs.Laws.{PresentGoesOn, PresentIsWhole, RestsBetween, Silence, StageHolds, Tallies};
-ghost use Rattle.ca_stage.specs.Laws.{Totals};
+ghost use Rattle.ca_stage.specs.Laws.{PacketsComeFrom, ReadInOrder, Totals};
 
 /// The padding of a stream is what was released to it and has no fate, in order.
 pub fn conservation()
@@ -100,10 +101,34 @@ pub fn period_is_one_map()
     ensures { PeriodIsOneMap }
 {}
 
+/// So is a period of an endpoint that captures.
+#[tactic(auto, using(crate::proofs::Feeds::capture_is_one_map))]
+pub fn capture_is_one_map()
+    ensures { CaptureIsOneMap }
+{}
+
 /// The places of a stream's rendered frames rise.
 #[tactic(auto, using(crate::proofs::Rise::places_rise))]
 pub fn places_rise()
     ensures { PlacesRise }
+{}
+
+/// What waits in a stream are the packets of its book that are pending, and its counts are those of the book.
+#[tactic(auto, using(crate::proofs::Books::booked))]
+pub fn booked()
+    ensures { Booked }
+{}
+
+/// The packets that were read are those that are marked so, in the order in which they were offered.
+#[tactic(auto, using(crate::proofs::ReadOrder::read_in_order))]
+pub fn read_in_order()
+    ensures { ReadInOrder }
+{}
+
+/// A stream that hears an endpoint is offered what one Sound of it wrote, one that records it what its device gave,
+/// and one that plays nothing.
+pub fn packets_come_from()
+    ensures { PacketsComeFrom }
 {}
 
 /// From its close on nothing is released to a stream, no frame of it gets a fate, and no period sums one.

@@ -35,6 +35,8 @@ pub fn read_call(alloc: Global, code: u8, input: &[u8]) -> Result<Call, Fault>
         30 => Ok(read_set_stream_level(input)?),
         32 => Ok(read_get_buffer(input)?),
         33 => read_release_buffer(alloc, input),
+        34 | 35 => Ok(read_number_call(code, input)?),
+        36 => Ok(read_capture_release_buffer(input)?),
         50 => Ok(read_set_master(input)?),
         51 => Ok(read_set_mute(input)?),
         52 => Ok(read_set_channel(input)?),
@@ -144,6 +146,8 @@ fn number_call(code: u8, number: u64) -> Call
         24 => Call::Stop { client },
         25 => Call::Reset { client },
         28 => Call::GetPosition { client },
+        34 => Call::GetNextPacketSize { client },
+        35 => Call::CaptureGetBuffer { client },
         // 49, the only one that is left
         _ => Call::GetSession {
             session: SessionNo(number),
@@ -221,6 +225,16 @@ fn read_release_buffer(alloc: Global, input: &[u8]) -> Result<Call, Fault>
         flags,
         bytes: Bytes::from_slice(alloc, rest)?,
     })
+}
+
+fn read_capture_release_buffer(input: &[u8]) -> Result<Call, NoField>
+    ensures { GivesCall 36 result input.now }
+{
+    let (client, rest) = take_u64(input)?;
+    let (frames, rest) = take_u32(rest)?;
+    expect_end(rest)?;
+    let client = ClientNo(client);
+    Ok(Call::CaptureReleaseBuffer { client, frames })
 }
 
 fn read_other_call(alloc: Global, code: u8, input: &[u8]) -> Result<Call, Fault>

@@ -19,7 +19,7 @@ const INITIALIZE: [u8; 79] = [
 ];
 
 /// Calls that take no memory: their codes, and the lengths of their bodies if a text is empty.
-const CALLS: [(u8, u8); 31] = [
+const CALLS: [(u8, u8); 34] = [
     (1, 12),
     (2, 9),
     (3, 9),
@@ -43,6 +43,9 @@ const CALLS: [(u8, u8); 31] = [
     (29, 19),
     (30, 23),
     (32, 19),
+    (34, 15),
+    (35, 15),
+    (36, 19),
     (48, 11),
     (49, 15),
     (50, 35),

@@ -83,8 +83,31 @@ fn reads_go_on_in_their_files(rt: HostRuntime) -> Result<(), Fail> {
     assert_eq!(rt; devices.read(MICROPHONE, &mut buf), Ok(1));
     assert_eq!(rt; buf, [3, 2]);
     assert_eq!(rt; devices.read(MICROPHONE, &mut buf), Ok(0));
+    assert_eq!(rt; devices.read(MICROPHONE, &mut buf), Ok(0));
     assert_eq!(rt; devices.faults(), 1);
     fs::remove_dir_all(&rt, "read")?;
+    Ok(())
+}
+
+#[test]
+fn each_run_reads_a_file_from_its_front(rt: HostRuntime) -> Result<(), Fail> {
+    fs::create_dir(&rt, "front")?;
+    let mut buf = [0u8; 2];
+    let mut devices = FileDevices::new(NarrowFiles(rt), rt.alloc(), "front")?;
+    assert_eq!(rt;
+        devices.read(MICROPHONE, &mut buf),
+        Err(Failed),
+        "not there"
+    );
+    fs::write(&rt, "front/endpoint-2.pcm", [1u8, 2].as_slice())?;
+    for (count, first) in [(1, 1), (1, 2), (0, 2)] {
+        assert_eq!(rt; devices.read(MICROPHONE, &mut buf), Ok(count));
+        assert_eq!(rt; buf, [first, 0]);
+    }
+    let mut devices = FileDevices::new(rt, rt.alloc(), "front")?;
+    assert_eq!(rt; devices.read(MICROPHONE, &mut buf), Ok(2));
+    assert_eq!(rt; buf, [1, 2]);
+    fs::remove_dir_all(&rt, "front")?;
     Ok(())
 }
 

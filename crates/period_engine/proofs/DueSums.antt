@@ -30,9 +30,9 @@ use Rattle.std.proofs.Common.{
   inr,
   ◌⊎◌,
 }
-use Rattle.std.specs.Prelude.{◌==◌, nat_lt, slice_get, slice_index_or, slice_index, if◌then◌else◌}
+use Rattle.std.specs.Prelude.{◌==◌, ◌&&◌, nat_lt, slice_get, slice_index_or, slice_index, if◌then◌else◌}
 use Rattle.std.specs.List.{All}
-use Rattle.std.proofs.lemmas.Bool.{cases_lt}
+use Rattle.std.proofs.lemmas.Bool.{and_parts, cases_lt}
 use Rattle.std.proofs.lemmas.Bool.Decides.{nat_tests}
 use Rattle.std.proofs.lemmas.Int.{ints}
 use Rattle.std.proofs.lemmas.Option.{get_or_from_slice_get}
@@ -41,15 +41,15 @@ use Rattle.std.proofs.lemmas.List.Elements.{All-head, All-tail}
 use Rattle.std.proofs.Math.Nat.{mul-le-mul_left}
 use Rattle.wave_format.specs.Frame.{frame_of, sample_at}
 use Rattle.volume_stack.specs.Scaling.{scaled, sum_of}
-use Rattle.ca_stage.specs.Stage.{Frame, BufferData}
+use Rattle.ca_stage.specs.Stage.{Frame, BufferData, is_open, is_render, no_data}
 use Rattle.ca_stage.specs.Moves.{Mixing}
 use Rattle.ca_stage.specs.Mix.{sample_of, contribution, due_frames, streams_on}
 use Rattle.buffer_ring.specs.declared.step.EndState.{EndState}
 use Rattle.buffer_ring.specs.declared.step.Step.{Step}
 use Rattle.buffer_ring.specs.Steps.{reads_from}
 use Rattle.period_engine.specs.declared.entry.StreamEntry.{StreamEntry}
-use Rattle.period_engine.specs.Entries.{streams_of, is_played}
-use Rattle.period_engine.specs.Agreement.{Agrees, AllAgree}
+use Rattle.period_engine.specs.Entries.{streams_of, stream_with, is_played}
+use Rattle.period_engine.specs.Agreement.{Agrees, AllAgree, Layout, layout_of}
 use Rattle.period_engine.specs.Added.{sum_at, Threads, AddsEntry}
 use Rattle.period_engine.proofs.SoundSteps.{Follows}
 
@@ -135,15 +135,30 @@ module _ {E : Type 0} (datas : ℕ → BufferData) (m : Mixing) (number place ch
 
 -- ---- what the entries add
 
-agrees_at : (channels start : ℕ) (words : List ℕ) (d : BufferData) → Agrees channels (reads_from start words) d
-    → (k : ℕ) → k < length words → slice_get d.pending (start + k) ≡ Some (frame_of channels (slice_index words k))
-agrees_at channels start [] d agrees k lt = absurd (omega arith)
-agrees_at channels start (word ∷ words) d agrees zero lt =
+-- an entry with a frame picked is to be played
+pub renders : {E : Type 0} (number : ℕ) (e : StreamEntry E) → (is_played number e ≡ false → e.picked ≡ 0)
+    → 0 < e.picked → is_render e.kind ≡ true
+renders number e plays some = go (is_played number e) refl
+  where
+    opens : Bool
+    opens = is_open (stream_with no_data e)
+
+    go : (b : Bool) → is_played number e ≡ b → is_render e.kind ≡ true
+    go true is =
+        let p = and_parts (e.endpoint.0 == number) (opens && (e.running && is_render e.kind)) is in
+        (and_parts e.running (is_render e.kind) (and_parts opens (e.running && is_render e.kind) p.1).1).1
+    go false is = let none = plays is in absurd (omega arith)
+
+agrees_at : (l : Layout) → l.plays ≡ true → (start : ℕ) (words : List ℕ) (d : BufferData)
+    → Agrees l (reads_from start words) d → (k : ℕ) → k < length words
+    → slice_get d.pending (start + k) ≡ Some (frame_of l.channels (slice_index words k))
+agrees_at l plays start [] d agrees k lt = absurd (omega arith)
+agrees_at l plays start (word ∷ words) d agrees zero lt =
     let here : start + 0 ≡ start = omega arith in
-    ap (slice_get d.pending) here ∙ agrees.0
-agrees_at channels start (word ∷ words) d agrees (suc k) lt =
+    ap (slice_get d.pending) here ∙ agrees.0 plays
+agrees_at l plays start (word ∷ words) d agrees (suc k) lt =
     let next : start + suc k ≡ suc start + k = omega arith in
-    ap (slice_get d.pending) next ∙ agrees_at channels (suc start) words d agrees.1 k (omega arith)
+    ap (slice_get d.pending) next ∙ agrees_at l plays (suc start) words d agrees.1 k (omega arith)
 
 -- the sample of a word's frame
 sample_of-frame_of : (channels word channel : ℕ) → channel < channels
@@ -155,16 +170,17 @@ module _ {E : Type 0} (moves : E → List Step → E → Type 0) (state : E → 
     (datas : ℕ → BufferData) (place channel : ℕ) (within : channel < channels) where
   -- an entry with a frame at this place
   adds_frame : (a b : StreamEntry E) (old new : List ℤ) (h : AddsEntry moves state channels a b old new)
-      → Agrees a.channels (reads_from 0 h.words) (datas a.client.0) → a.channels ≡ channels → place < a.picked
+      → Agrees (layout_of a) (reads_from 0 h.words) (datas a.client.0) → a.channels ≡ channels
+      → is_render a.kind ≡ true → place < a.picked
       → sum_at new (channels * place + channel) ≡ sum_at old (channels * place + channel) +ℤ part datas place channel a
-  adds_frame a b old new h agrees fits lt =
+  adds_frame a b old new h agrees fits renders lt =
       let word = slice_index h.words place in
       let there : place < length h.words = omega (arith, h.count_is) in
       let start : 0 + place ≡ place = omega arith in
       let frame : slice_index_or (datas a.client.0).pending place [] ≡ frame_of channels word =
       get_or_from_slice_get (datas a.client.0).pending place (frame_of channels word) []
       (ap (slice_get (datas a.client.0).pending) (sym start)
-      ∙ agrees_at a.channels 0 h.words (datas a.client.0) agrees place there
+      ∙ agrees_at (layout_of a) renders 0 h.words (datas a.client.0) agrees place there
       ∙ ap (λ n. Some (frame_of n word)) fits) in
       let sample : sample_at word channel ≡ sample_of (slice_index_or (datas a.client.0).pending place []) channel =
       sym (ap (λ f. sample_of f channel) frame ∙ sample_of-frame_of channels word channel within) in
@@ -184,28 +200,33 @@ module _ {E : Type 0} (moves : E → List Step → E → Type 0) (state : E → 
       ∙ nothing_behind (sum_at old (channels * place + channel)))
 
   adds_part : (a b : StreamEntry E) (old new : List ℤ) (h : AddsEntry moves state channels a b old new)
-      → Agrees a.channels (reads_from 0 h.words) (datas a.client.0) → (0 < a.picked → a.channels ≡ channels)
-      → (place < a.picked) ⊎ (a.picked ≤ place)
+      → Agrees (layout_of a) (reads_from 0 h.words) (datas a.client.0) → (0 < a.picked → a.channels ≡ channels)
+      → (0 < a.picked → is_render a.kind ≡ true) → (place < a.picked) ⊎ (a.picked ≤ place)
       → sum_at new (channels * place + channel) ≡ sum_at old (channels * place + channel) +ℤ part datas place channel a
-  adds_part a b old new h agrees fits (inl lt) = adds_frame a b old new h agrees (fits (omega arith)) lt
-  adds_part a b old new h agrees fits (inr le) = adds_nothing a b old new h le
+  adds_part a b old new h agrees fits renders (inl lt) =
+      adds_frame a b old new h agrees (fits (omega arith)) (renders (omega arith)) lt
+  adds_part a b old new h agrees fits renders (inr le) = adds_nothing a b old new h le
 
   -- the sum of a channel is what all entries add
   pub sum_along : (steps : ℕ → List Step) (xs ys : List (StreamEntry E)) (old new : List ℤ)
       (h : Threads (AddsEntry moves state channels) xs ys old new) → Follows moves state channels steps xs ys old new h
       → AllAgree steps datas xs → All (λ e. 0 < e.picked → e.channels ≡ channels) xs
+      → All (λ e. 0 < e.picked → is_render e.kind ≡ true) xs
       → sum_at new (channels * place + channel)
       ≡ sum_at old (channels * place + channel) +ℤ sum_of (map (part datas place channel) xs)
-  sum_along steps [] [] old new h follows agree fits =
+  sum_along steps [] [] old new h follows agree fits renders =
       ap (λ sums. sum_at sums (channels * place + channel)) h ∙ nothing_behind (sum_at old (channels * place + channel))
-  sum_along steps (x ∷ xs) (y ∷ ys) old new h follows agree fits =
+  sum_along steps (x ∷ xs) (y ∷ ys) old new h follows agree fits renders =
       let k = channels * place + channel in
       let Fits : StreamEntry E → Type 0 = λ e. 0 < e.picked → e.channels ≡ channels in
-      let agrees : Agrees x.channels (reads_from 0 h.1.words) (datas x.client.0) =
-      subst (λ ss. Agrees x.channels ss (datas x.client.0)) follows.0 agree.0 in
-      let here = adds_part x y old h.0 h.1 agrees (All-head Fits x xs fits) (cases_lt place x.picked) in
-      let rest = sum_along steps xs ys h.0 new h.2 follows.1 agree.1 (All-tail Fits x xs fits) in
+      let Renders : StreamEntry E → Type 0 = λ e. 0 < e.picked → is_render e.kind ≡ true in
+      let agrees : Agrees (layout_of x) (reads_from 0 h.1.words) (datas x.client.0) =
+      subst (λ ss. Agrees (layout_of x) ss (datas x.client.0)) follows.0 agree.0 in
+      let here = adds_part x y old h.0 h.1 agrees (All-head Fits x xs fits) (All-head Renders x xs renders)
+      (cases_lt place x.picked) in
+      let rest = sum_along steps xs ys h.0 new h.2 follows.1 agree.1 (All-tail Fits x xs fits)
+      (All-tail Renders x xs renders) in
       rest ∙ ap (λ z. z +ℤ sum_of (map (part datas place channel) xs)) here
       ∙ add_assoc_ℤ (sum_at old k) (part datas place channel x) (sum_of (map (part datas place channel) xs))
-  sum_along steps [] (y ∷ ys) old new h follows agree fits = absurd h
-  sum_along steps (x ∷ xs) [] old new h follows agree fits = absurd h
+  sum_along steps [] (y ∷ ys) old new h follows agree fits renders = absurd h
+  sum_along steps (x ∷ xs) [] old new h follows agree fits renders = absurd h

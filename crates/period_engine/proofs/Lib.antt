@@ -10,3 +10,12 @@ pub mod DueSums
 pub mod SoundMix
 pub mod Mixable
 pub mod SameEntries
+pub mod Turns
+pub mod Packets
+pub mod FedEntries
+pub mod Reading
+pub mod GivenFrames
+pub mod CapturedFrames
+pub mod AgreedSteps
+pub mod PacketLists
+pub mod HeardFrames

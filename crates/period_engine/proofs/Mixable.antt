@@ -36,6 +36,8 @@ module _ {E : Type 0} (moves : E → List Step → E → Type 0) (state : E → 
           gate = ap (λ s. s.gate) adds.knows ∙ picked.fits.gate ∙ sym takes.gate;
           size = ap (λ s. s.cap) adds.knows ∙ picked.fits.size ∙ sym takes.same.room;
           position = omega (arith, picked.fits.position, takes.position);
+          offered = omega (arith, picked.fits.offered, takes.offered, takes.ever);
+          ever = omega (arith, picked.fits.ever, takes.ever);
           some_channel = omega (arith, picked.fits.some_channel, takes.same.channels);
           few_channels = omega (arith, picked.fits.few_channels, takes.same.channels);
         };

@@ -18,6 +18,7 @@ use Rattle.std.proofs.Common.{
   sym,
   ap,
   ◌∙◌,
+  get_or,
   arith,
 }
 use Rattle.std.specs.Prelude.{slice_index}
@@ -41,7 +42,7 @@ use Rattle.period_engine.specs.Added.{sum_at, Threads, AddsEntry}
 use Rattle.period_engine.specs.Written.{sample_of_sum, HoldSamples}
 use Rattle.period_engine.proofs.Rows.{in_rows, alike, made_of_rows}
 use Rattle.period_engine.proofs.SumSteps.{zero_at}
-use Rattle.period_engine.proofs.DueSums.{part, due_sum, sum_along}
+use Rattle.period_engine.proofs.DueSums.{part, due_sum, renders, sum_along}
 use Rattle.period_engine.proofs.SoundSteps.{Follows}
 
 -- the bytes of a mix, channel by channel
@@ -76,6 +77,7 @@ module _ {E : Type 0} (moves : E → List Step → E → Type 0) (state : E → 
       ≡ sum_of (map (contribution m c) (due_frames i (streams_on number (streams_of datas xs))))
   sum_is i c lt =
       sum_along moves state (length ends) datas i c lt steps xs ys (replicate size (pos 0)) sums h follows agree fits
+      (λ k d within. renders number (get_or xs k d) (plays k d within))
       ∙ ap (λ z. z +ℤ sum_of (map (part datas i c) xs)) (zero_at size (length ends * i + c))
       ∙ from_zero (sum_of (map (part datas i c) xs))
       ∙ sym (due_sum datas m number i c xs (λ k d within. mixes.gains k d within c lt) plays)

@@ -27,23 +27,28 @@ use Rattle.buffer_ring.specs.declared.step.EndState.{EndState}
 use Rattle.buffer_ring.specs.declared.step.Step.{Step}
 use Rattle.buffer_ring.specs.Steps.{reads_from}
 use Rattle.period_engine.specs.declared.entry.StreamEntry.{StreamEntry}
-use Rattle.period_engine.specs.Agreement.{data_after}
+use Rattle.period_engine.specs.Agreement.{ArePacked, Layout, data_after}
 use Rattle.period_engine.specs.Sounds.{TakesSteps, AllTakeSteps}
 use Rattle.period_engine.specs.Added.{Threads, AddsEntry}
 
-pub reads_leave : (channels start : ℕ) (words : List ℕ) (d : BufferData)
-    → data_after channels (reads_from start words) d ≡ d
-reads_leave channels start [] d = refl
-reads_leave channels start (word ∷ words) d = reads_leave channels (suc start) words d
+-- reads leave the data as they are, and put and retire nothing
+pub reads_leave : (l : Layout) (start : ℕ) (words : List ℕ) (d : BufferData)
+    → data_after l (reads_from start words) d ≡ d
+reads_leave l start [] d = refl
+reads_leave l start (word ∷ words) d = reads_leave l (suc start) words d
+
+pub reads_packed : (l : Layout) (start : ℕ) (words : List ℕ) → ArePacked l (reads_from start words)
+reads_packed l start [] = tt
+reads_packed l start (word ∷ words) = reads_packed l (suc start) words
 
 above : (m n : ℕ) → suc m ≤ n → (n == m) ≡ false
 above m n le = grind (arith, nat_tests)
 
--- reads leave the data as they are
-by_client : (is : Bool) (words : List ℕ) (ss : List Step) (n : ℕ) (d : BufferData) → data_after n ss d ≡ d
-    → data_after n (if is then reads_from 0 words else ss) d ≡ d
-by_client true words ss n d same = reads_leave n 0 words d
-by_client false words ss n d same = same
+-- and so do those of a client
+by_client : (is : Bool) (words : List ℕ) (ss : List Step) (l : Layout) (d : BufferData) → data_after l ss d ≡ d
+    → data_after l (if is then reads_from 0 words else ss) d ≡ d
+by_client true words ss l d same = reads_leave l 0 words d
+by_client false words ss l d same = same
 
 module _ {E : Type 0} (moves : E → List Step → E → Type 0) (state : E → EndState) (channels : ℕ) where
   -- the reads of the entry of a client
@@ -101,11 +106,11 @@ module _ {E : Type 0} (moves : E → List Step → E → Type 0) (state : E → 
   all_take steps (x ∷ xs) [] old new h follows = absurd h
 
   pub steps_leave : (xs ys : List (StreamEntry E)) (old new : List ℤ)
-      (h : Threads (AddsEntry moves state channels) xs ys old new) (d : BufferData) (client n : ℕ)
-      → data_after n (steps_of xs ys old new h client) d ≡ d
-  steps_leave [] [] old new h d client n = refl
-  steps_leave (x ∷ xs) (y ∷ ys) old new h d client n =
-      by_client (client == x.client.0) h.1.words (steps_of xs ys h.0 new h.2 client) n d
-      (steps_leave xs ys h.0 new h.2 d client n)
-  steps_leave [] (y ∷ ys) old new h d client n = refl
-  steps_leave (x ∷ xs) [] old new h d client n = refl
+      (h : Threads (AddsEntry moves state channels) xs ys old new) (d : BufferData) (client : ℕ) (l : Layout)
+      → data_after l (steps_of xs ys old new h client) d ≡ d
+  steps_leave [] [] old new h d client l = refl
+  steps_leave (x ∷ xs) (y ∷ ys) old new h d client l =
+      by_client (client == x.client.0) h.1.words (steps_of xs ys h.0 new h.2 client) l d
+      (steps_leave xs ys h.0 new h.2 d client l)
+  steps_leave [] (y ∷ ys) old new h d client l = refl
+  steps_leave (x ∷ xs) [] old new h d client l = refl

@@ -14,6 +14,7 @@ use Rattle.std.proofs.Common.{
   length,
   take,
   drop,
+  refl,
   sym,
   ap,
   subst,
@@ -25,7 +26,9 @@ use Rattle.buffer_ring.specs.declared.step.EndState.{EndState}
 use Rattle.buffer_ring.specs.declared.step.Step.{Step}
 use Rattle.buffer_ring.specs.declared.step.Step.TheVariants as step
 use Rattle.buffer_ring.specs.Steps.{reads_from}
-use Rattle.period_engine.specs.Added.{AddsWords, AddsStore}
+use Rattle.period_engine.specs.declared.entry.StreamEntry.{StreamEntry}
+use Rattle.period_engine.specs.Added.{AddsWords, AddsStore, AddsEntry}
+use Rattle.period_engine.proofs.SoundSteps.{reads_packed}
 use Rattle.period_engine.proofs.WordBlocks.{more_words}
 
 reads_append : (start : ℕ) (words more : List ℕ)
@@ -61,3 +64,41 @@ module _ {E : Type 0} {moves : E → List Step → E → Type 0} {state : E → 
         knows = keeps ∙ so_far.knows;
         adds = more_words so_far.adds (channels * place) at within adds;
       }
+
+-- what was picked of an entry was read and added: nothing else of it changed
+pub adds_picked : {E : Type 0} (moves : E → List Step → E → Type 0) (state : E → EndState) (channels n : ℕ)
+    (a : StreamEntry E) (store : E) (old new : List ℤ) → channels ≡ n
+    → AddsStore moves state a.gains n a.picked a.store store old new
+    → AddsEntry moves state channels a (record a { store = store }) old new
+adds_picked moves state channels n a store old new is adds = record {
+  words = adds.words;
+  count_is = adds.count_is;
+  takes = record {
+    same = record {
+      client = refl;
+      endpoint = refl;
+      kind = refl;
+      exclusive = refl;
+      event = refl;
+      channels = refl;
+      rate = refl;
+      buffer = refl;
+      period = refl;
+      room = refl;
+      latency = refl;
+      session = refl;
+      gains = refl;
+    };
+    running = refl;
+    gate = refl;
+    picked = refl;
+    position = refl;
+    offered = refl;
+    ever = refl;
+    after_gap = refl;
+    made = adds.made;
+    packs = λ l. reads_packed l 0 adds.words;
+  };
+  knows = adds.knows;
+  adds = subst (λ k. AddsWords a.gains k adds.words old new) (sym is) adds.adds;
+}

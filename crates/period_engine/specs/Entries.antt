@@ -2,7 +2,7 @@
 use Rattle.std.specs.Prelude.{◌≡◌, ℕ, ◌+◌, ◌≤◌, List, length, map, Bool, false, true}
 use Rattle.ca_base.specs.declared.limits.TheConstants.{CLIENTS, MAX_COUNT}
 use Rattle.ca_stage.specs.Stage.{Stream, BufferData, no_data}
-use Rattle.ca_stage.specs.Moves.{is_playing}
+use Rattle.ca_stage.specs.Periods.{is_hearing, is_playing, is_recording}
 use Rattle.ca_stage.specs.Order.{RisesFrom}
 use Rattle.buffer_ring.specs.declared.step.EndState.{EndState}
 use Rattle.period_engine.specs.declared.entry.StreamEntry.{StreamEntry}
@@ -26,6 +26,9 @@ stream_with d e = record {
   gate = e.gate;
   picked = e.picked;
   position = e.position;
+  offered = e.offered;
+  ever = e.ever;
+  after_gap = e.after_gap;
   buffer_data = d;
 }
 
@@ -52,6 +55,8 @@ pub record FitsStore {E : Type 0} (state : E → EndState) (e : StreamEntry E) :
   pub gate : (state e.store).gate ≡ e.gate
   pub size : (state e.store).cap ≡ e.room
   pub position : e.position ≤ MAX_COUNT
+  pub offered : e.offered ≤ e.ever
+  pub ever : e.ever ≤ MAX_COUNT
   pub some_channel : 1 ≤ e.channels
   pub few_channels : e.channels ≤ 4
 
@@ -67,6 +72,20 @@ is_played number e = is_playing number (stream_with no_data e)
 -- the position of an entry that a period of this endpoint plays has room for p frames more
 abbrev pub HasRoom : {E : Type 0} → ℕ → ℕ → StreamEntry E → Type 0
 HasRoom number p e = is_played number e ≡ true → e.position + p ≤ MAX_COUNT
+
+-- an entry that a period of an endpoint offers packets to: what its device gave, or what it got
+abbrev pub is_recorded : {E : Type 0} → ℕ → StreamEntry E → Bool
+is_recorded number e = is_recording number (stream_with no_data e)
+
+abbrev pub is_heard : {E : Type 0} → ℕ → StreamEntry E → Bool
+is_heard number e = is_hearing number (stream_with no_data e)
+
+-- an entry that may be offered a packet of p frames: its packets have as many, of so many channels, and its counts have
+-- room for them
+pub record IsFeedable {E : Type 0} (channels p : ℕ) (e : StreamEntry E) : Type 0 where
+  pub channels_are : e.channels ≡ channels
+  pub period : e.period ≡ p
+  pub ever : e.ever + p ≤ MAX_COUNT
 
 -- in a period of an endpoint: of frames that were seen at most p are picked, of streams that it plays alone, and the
 -- position has room for them

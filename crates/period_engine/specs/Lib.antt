@@ -1,7 +1,9 @@
 pub mod Entries
+pub mod Packed
 pub mod Agreement
 pub mod Offers
 pub mod SubSteps
 pub mod Sounds
 pub mod Added
 pub mod Written
+pub mod Feeds

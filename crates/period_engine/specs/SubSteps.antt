@@ -2,11 +2,12 @@
 -- project's own).
 use Rattle.std.specs.Prelude.{◌≡◌, ℕ, List, if◌then◌else◌}
 use Rattle.ca_stage.specs.Stage.{Stream, BufferData, no_data}
-use Rattle.ca_stage.specs.Moves.{StreamMove, picked, retired, moved, is_playing}
+use Rattle.ca_stage.specs.Moves.{StreamMove, picked, retired, moved}
+use Rattle.ca_stage.specs.Periods.{is_playing}
 use Rattle.buffer_ring.specs.declared.step.Step.{Step}
 use Rattle.period_engine.specs.declared.entry.StreamEntry.{StreamEntry}
 use Rattle.period_engine.specs.Entries.{stream_with}
-use Rattle.period_engine.specs.Agreement.{Agrees, data_after}
+use Rattle.period_engine.specs.Agreement.{Agrees, ArePacked, data_after, layout_of}
 
 -- what an entry was opened as, and what no sub-step changes
 pub record IsSameEntry {E : Type 0} (a b : StreamEntry E) : Type 0 where
@@ -25,17 +26,20 @@ pub record IsSameEntry {E : Type 0} (a b : StreamEntry E) : Type 0 where
   pub gains : b.gains ≡ a.gains
 
 -- an entry went on as f moves its stream: by steps of its store, for all data that agree with them. Whether it runs,
--- its gate and its position go as f moves them whatever the data are
+-- its gate, its position and what it was offered go as f moves them whatever the data are
 pub record Turned {E : Type 0} (moves : E → List Step → E → Type 0) (f : Stream → Stream) (a b : StreamEntry E) : Type 0
   where
     pub same : IsSameEntry a b
     pub steps : List Step
     pub made : moves a.store steps b.store
-    pub turns : (d : BufferData) → Agrees a.channels steps d →
-        f (stream_with d a) ≡ stream_with (data_after a.channels steps d) b
+    pub packs : ArePacked (layout_of a) steps
+    pub turns : (d : BufferData) → Agrees (layout_of a) steps d →
+        f (stream_with d a) ≡ stream_with (data_after (layout_of a) steps d) b
     pub running : b.running ≡ (f (stream_with no_data a)).running
     pub gate : b.gate ≡ (f (stream_with no_data a)).gate
     pub position : b.position ≡ (f (stream_with no_data a)).position
+    pub offered : b.offered ≡ (f (stream_with no_data a)).offered
+    pub ever : b.ever ≡ (f (stream_with no_data a)).ever
 
 -- a move of those streams that an endpoint's period plays
 abbrev pub if_playing : ℕ → StreamMove → Stream → Stream

@@ -5,7 +5,8 @@ ghost use Rattle.std.specs.List.{All};
 ghost use Rattle.volume_stack.specs.Scaling.{unit_gain};
 ghost use Rattle.volume_stack.specs.Sums.{AreWithin, sum_limit};
 ghost use Rattle.ca_base.specs.declared.limits.TheConstants.{CLIENTS};
-ghost use Rattle.period_engine.specs.Added.{AddsEntry, AddsStore, AddsWord, AddsWords, IsAddable, Threads, most_sum, sum_at};
+ghost use Rattle.period_engine.specs.Added.{AddsEntry, AddsStore, AddsWord, AddsWords, IsAddable, Threads};
+ghost use Rattle.period_engine.specs.Added.{most_sum, sum_at};
 
 use crate::StreamEntry;
 use buffer_ring::EngineSide;

@@ -18,7 +18,8 @@ pub struct StreamEntry<E> {
     pub buffer: u32,
     pub period: u32,
     pub store: E,
-    /// The words that the store holds.
+    /// The words that the store holds: one for a frame that is to be played, and for a packet one for each frame of a
+    /// period and one ahead of them.
     pub room: u32,
     /// In units of 100 ns.
     pub latency: u64,
@@ -29,6 +30,11 @@ pub struct StreamEntry<E> {
     pub picked: u32,
     /// The frames rendered since the last Reset.
     pub position: u64,
+    /// The frames of packets offered since the last Reset, and of all that were ever offered.
+    pub offered: u64,
+    pub ever: u64,
+    /// Whether the last packet offered since the last Reset was lost, for want of room.
+    pub after_gap: bool,
     /// The gain of each channel, from 0 to 65536.
     pub gains: [u32; 4],
 }

@@ -7,7 +7,7 @@ ghost use Rattle.ca_machine.specs.Endpoints.{endpoint_payload, endpoints_payload
 ghost use Rattle.reply_payload.specs.declared.payload.TheConstants.{REPLY_ROOM};
 
 use crate::payload::REPLY_ROOM;
-use crate::pieces::{add, flag, put_format, put_text};
+use crate::pieces::{flag, put_format, put_text};
 use arrayvec::ArrayVec;
 use ca_base::{Bytes, EndpointNo, Text};
 use device_registry::{Endpoint, flow_number};
@@ -45,9 +45,9 @@ pub fn put_endpoints(numbers: &[EndpointNo], out: &mut Bytes)
     ensures within { length out.new.list ≤ REPLY_ROOM }
     ensures keeps { out.old.capacity ≤ out.new.capacity }
 {
-    add(out, &(numbers.len() as u32).to_le_bytes());
+    out.append_reserved(&(numbers.len() as u32).to_le_bytes());
     'numbers: for number in numbers.iter() {
-        add(out, &number.0.to_le_bytes());
+        out.append_reserved(&number.0.to_le_bytes());
     }
 }
 
@@ -59,9 +59,9 @@ pub fn put_endpoint(e: &Endpoint, out: &mut Bytes)
     ensures within { length out.new.list ≤ REPLY_ROOM }
     ensures keeps { out.old.capacity ≤ out.new.capacity }
 {
-    add(out, &[flow_number(e.flow)]);
-    add(out, &e.state.to_le_bytes());
-    add(out, &[flag(e.allow), flag(e.priority)]);
+    out.append_reserved(&[flow_number(e.flow)]);
+    out.append_reserved(&e.state.to_le_bytes());
+    out.append_reserved(&[flag(e.allow), flag(e.priority)]);
     put_format(&e.format, out);
     put_text(&id_of(e.no), out);
     put_text(&e.name, out);

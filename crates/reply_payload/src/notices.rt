@@ -7,7 +7,6 @@ ghost use Rattle.event_notices.specs.Bytes.{notice_bytes};
 ghost use Rattle.ca_machine.specs.Registrations.{notices_payload};
 ghost use Rattle.reply_payload.specs.declared.payload.TheConstants.{LONGEST_NOTICE, REPLY_ROOM};
 
-use crate::pieces::add;
 use ca_base::Bytes;
 use call_wire::write_notice;
 use event_notices::Notice;
@@ -45,8 +44,8 @@ pub fn put_notices(lost: u64, notices: &[Notice], out: &mut Bytes)
     ensures within { length out.new.list ≤ REPLY_ROOM }
     ensures keeps { out.old.capacity ≤ out.new.capacity }
 {
-    add(out, &0_u32.to_le_bytes());
-    add(out, &lost.to_le_bytes());
-    add(out, &(notices.len() as u32).to_le_bytes());
+    out.append_reserved(&0_u32.to_le_bytes());
+    out.append_reserved(&lost.to_le_bytes());
+    out.append_reserved(&(notices.len() as u32).to_le_bytes());
     put_each(notices, out);
 }

@@ -4,7 +4,7 @@ ghost use Rattle.std.specs.Prelude.{◌≡◌, ◌≤◌, [], ◌∷◌, ◌++�
 ghost use Rattle.std.specs.Int.{to_le_bytes, w32};
 ghost use Rattle.reply_payload.specs.Answers.{is_failure, payload_bytes, payload_code};
 
-use crate::pieces::{add, flag, put_format};
+use crate::pieces::{flag, put_format};
 use ca_base::limits::{MAX_TEXT, NOTICES};
 use ca_base::{Bytes, Hr};
 use call_wire::NOTICE_HEAD;
@@ -47,7 +47,7 @@ fn put_period(frames: u32, failed: bool, out: &mut Bytes)
     ensures keeps { out.old.capacity ≤ out.new.capacity }
 {
     let [a, b, c, d] = frames.to_le_bytes();
-    add(out, &[a, b, c, d, flag(failed)]);
+    out.append_reserved(&[a, b, c, d, flag(failed)]);
 }
 
 impl Payload {
@@ -81,11 +81,11 @@ impl Payload {
     {
         match self {
             Payload::Nothing => {}
-            Payload::Number(n) => add(out, &n.to_le_bytes()),
-            Payload::Long(n) => add(out, &n.to_le_bytes()),
+            Payload::Number(n) => out.append_reserved(&n.to_le_bytes()),
+            Payload::Long(n) => out.append_reserved(&n.to_le_bytes()),
             Payload::Longs(a, b) => {
-                add(out, &a.to_le_bytes());
-                add(out, &b.to_le_bytes());
+                out.append_reserved(&a.to_le_bytes());
+                out.append_reserved(&b.to_le_bytes());
             }
             Payload::Format(f) | Payload::Closest(f) => put_format(f, out),
             Payload::Period { frames, failed } => put_period(*frames, *failed, out),

@@ -9,17 +9,6 @@ ghost use Rattle.ca_machine.specs.Streams.{format_payload};
 use ca_base::{Bytes, Text};
 use wave_format::{Format, format_length, write_format};
 
-/// Adds bytes that fit without asking for memory.
-pub fn add(out: &mut Bytes, bytes: &[u8])
-    requires { length out.old.list + length bytes.now ≤ out.old.capacity }
-    ensures list { out.new.list ≡ out.old.list ++ bytes.now }
-    ensures keeps { out.old.capacity ≤ out.new.capacity }
-{
-    if out.append(bytes).is_err() {
-        unreachable!();
-    }
-}
-
 /// A byte that says whether something holds.
 pub fn flag(holds: bool) -> u8
     ensures { result ≡ (if holds then 1 else 0) }
@@ -35,8 +24,8 @@ pub fn put_text(text: &Text, out: &mut Bytes)
     ensures keeps { out.old.capacity ≤ out.new.capacity }
 {
     let bytes = text.as_bytes();
-    add(out, &(bytes.len() as u16).to_le_bytes());
-    add(out, bytes);
+    out.append_reserved(&(bytes.len() as u16).to_le_bytes());
+    out.append_reserved(bytes);
 }
 
 /// Puts a format: two bytes of length, and its bytes.
@@ -46,7 +35,7 @@ pub fn put_format(f: &Format, out: &mut Bytes)
     ensures within { length out.new.list ≤ length out.old.list + 2 + EXTENSIBLE_LENGTH }
     ensures keeps { out.old.capacity ≤ out.new.capacity }
 {
-    add(out, &format_length(f).to_le_bytes());
+    out.append_reserved(&format_length(f).to_le_bytes());
     if write_format(f, out).is_err() {
         unreachable!();
     }

@@ -8,7 +8,7 @@ ghost use Rattle.ca_machine.specs.Sessions.{levels_payload, numbers_payload, ses
 ghost use Rattle.reply_payload.specs.declared.payload.TheConstants.{REPLY_ROOM};
 
 use crate::payload::REPLY_ROOM;
-use crate::pieces::{add, flag, put_text};
+use crate::pieces::{flag, put_text};
 use ca_base::limits::MAX_LEVEL;
 use ca_base::{Bytes, EndpointNo, Text};
 use session_manager::{Session, SessionBook};
@@ -21,9 +21,9 @@ fn put_levels(levels: &[u32], out: &mut Bytes)
     ensures within { length out.new.list ≤ length out.old.list + 20 }
     ensures keeps { out.old.capacity ≤ out.new.capacity }
 {
-    add(out, &(levels.len() as u32).to_le_bytes());
+    out.append_reserved(&(levels.len() as u32).to_le_bytes());
     'levels: for level in levels.iter() {
-        add(out, &level.to_le_bytes());
+        out.append_reserved(&level.to_le_bytes());
     }
 }
 
@@ -36,15 +36,15 @@ fn put_numbers(s: &Session, state: u8, out: &mut Bytes)
     ensures within { length out.new.list ≤ 55 }
     ensures keeps { out.old.capacity ≤ out.new.capacity }
 {
-    add(out, &s.key.endpoint.0.to_le_bytes());
-    add(out, &s.key.process.to_le_bytes());
-    add(out, &[state]);
-    add(out, &s.level.to_le_bytes());
-    add(out, &[flag(s.mute)]);
+    out.append_reserved(&s.key.endpoint.0.to_le_bytes());
+    out.append_reserved(&s.key.process.to_le_bytes());
+    out.append_reserved(&[state]);
+    out.append_reserved(&s.level.to_le_bytes());
+    out.append_reserved(&[flag(s.mute)]);
     put_levels(&s.channels[..s.count as usize], out);
-    add(out, &MAX_LEVEL.to_le_bytes());
-    add(out, &[flag(s.optout)]);
-    add(out, &s.grouping.0.to_be_bytes());
+    out.append_reserved(&MAX_LEVEL.to_le_bytes());
+    out.append_reserved(&[flag(s.optout)]);
+    out.append_reserved(&s.grouping.0.to_be_bytes());
 }
 
 /// Puts a session's data, with its state.
@@ -85,6 +85,6 @@ pub fn put_sessions_of(sessions: &SessionBook, e: EndpointNo, out: &mut Bytes)
     ensures within { length out.new.list ≤ REPLY_ROOM }
     ensures keeps { out.old.capacity ≤ out.new.capacity }
 {
-    add(out, &count_on(sessions.sessions(), e).to_le_bytes());
+    out.append_reserved(&count_on(sessions.sessions(), e).to_le_bytes());
     sessions.enumerate(e, out);
 }

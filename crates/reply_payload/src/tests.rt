@@ -168,3 +168,52 @@ fn sessions_are_told(rt: HostRuntime) -> Result<(), Fail> {
     assert_eq!(rt; out.as_slice(), listed.as_slice());
     Ok(())
 }
+
+#[test]
+fn a_packet_is_told(rt: HostRuntime) -> Result<(), Fail> {
+    let words = [0x0004_0003_0002_fffb_u64, 0x0104_0103_0102_0101];
+    let frames = [
+        251, 255, 2, 0, 3, 0, 4, 0, // -5, 2, 3, 4
+        1, 1, 2, 1, 3, 1, 4, 1, // 257, 258, 259, 260
+    ];
+    for (channels, follows_gap, flags) in [
+        (1, true, 1),
+        (2, false, 0),
+        (3, true, 1),
+        (4, false, 0),
+    ] {
+        let mut out = empty(rt.alloc())?;
+        put_packet_head(2, follows_gap, 1920, &mut out);
+        add_frames(&words, channels, &mut out);
+        let head = [2, 0, 0, 0, flags, 0, 0, 0, 128, 7, 0, 0, 0, 0, 0, 0];
+        let size = channels as usize * 2;
+        assert_eq!(rt; out.len(), 16 + 2 * size);
+        assert!(rt; out.as_slice()[..16] == head[..]);
+        assert!(rt;
+            out.as_slice()[16..16 + size] == frames[..size],
+            "{channels}"
+        );
+        assert!(rt;
+            out.as_slice()[16 + size..] == frames[8..8 + size],
+            "{channels}"
+        );
+    }
+    Ok(())
+}
+
+#[test]
+fn more_frames_than_a_batch_are_added(rt: HostRuntime) -> Result<(), Fail> {
+    let mut words = [0; 200];
+    for place in 0..words.len() {
+        words[place] = place as u64;
+    }
+    let mut out = empty(rt.alloc())?;
+    add_frames(&words, 2, &mut out);
+    assert_eq!(rt; out.len(), 800);
+    for place in [0_u8, 63, 64, 127, 128, 199] {
+        let at = place as usize * 4;
+        let frame = [place, 0, 0, 0];
+        assert!(rt; out.as_slice()[at..at + 4] == frame[..], "{place}");
+    }
+    Ok(())
+}

@@ -221,7 +221,6 @@ module _ {D E : Type 0} (state : E → EndState) (b : Board D E) (order : InOrde
     opens = h.opens;
     within = h.within;
     gains = h.gains;
-    renders = h.renders;
   }
 
   pub activated_order : InOrder state (record b { book = with_client })

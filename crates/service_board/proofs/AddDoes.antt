@@ -1,9 +1,10 @@
 -- Add: the endpoint that is added, and the board with it.
-use Rattle.std.proofs.Common.{◌≡◌, ℕ, suc, ◌<◌, ◌≤◌, ◌==◌, List, [], ◌∷◌, ◌++◌, length, map, Bool, false}
-use Rattle.std.proofs.Common.{Option, Some, None, nat_le, refl, sym, ap, ap₂, ◌∙◌, subst, arith, if◌then◌else◌}
+use Rattle.std.proofs.Common.{◌≡◌, ℕ, suc, ◌*◌, ◌<◌, ◌≤◌, ◌==◌, List, [], ◌∷◌, ◌++◌, length, map, Bool, false}
+use Rattle.std.proofs.Common.{Option, Some, None, nat_le, nat_lt, refl, sym, ap, ap₂, ◌∙◌, subst, arith, if◌then◌else◌}
 use Rattle.std.specs.List.{All, AllByRecursion, AllZip, find}
 use Rattle.std.specs.Option.{option_map_or}
 use Rattle.std.specs.Vec.{vec_capacity}
+use borrow.Author.Tests.{ltb-false}
 use Rattle.std.proofs.lemmas.Bool.{leb-false, or_from, or_parts}
 use Rattle.std.proofs.lemmas.Bool.Decides.{nat_tests}
 use Rattle.std.proofs.lemmas.List.{map-append}
@@ -11,7 +12,11 @@ use Rattle.std.proofs.lemmas.List.Elements.{All-push, All-weaker, recursion_from
 use Rattle.device_io.specs.DeviceLog.{DeviceLog}
 use Rattle.ca_base.specs.declared.codes.Hr.{Hr}
 use Rattle.ca_base.specs.declared.codes.TheConstants.Hr as hr
-use Rattle.ca_base.specs.declared.limits.TheConstants.{ENDPOINTS}
+use Rattle.ca_base.specs.declared.ids.Flow.{Flow}
+use Rattle.ca_base.specs.declared.ids.Flow.TheVariants as flow
+use Rattle.ca_base.specs.declared.limits.TheConstants.{ENDPOINTS, MAX_COUNT}
+use Rattle.ca_base.specs.declared.values.TheConstants.{FLOW_CAPTURE}
+use Rattle.wave_format.specs.Format.{IsValid}
 use Rattle.buffer_ring.specs.declared.step.EndState.{EndState}
 use Rattle.buffer_ring.specs.declared.step.Step.{Step}
 use Rattle.ca_stage.specs.Stage.{BufferData, Playhead, no_data}
@@ -21,13 +26,16 @@ use Rattle.ca_stage.specs.Tally.{Tally, no_tally}
 use Rattle.ca_stage.proofs.Lists.{find-append, first_of_two, map_same}
 use Rattle.device_registry.specs.declared.endpoint.Endpoint.{Endpoint}
 use Rattle.ca_machine.specs.State.{State}
-use Rattle.device_registry.specs.Endpoints.{EndpointList, added as with_one_more, is_endpoint}
+use Rattle.device_registry.specs.Endpoints.{EndpointList, added as with_one_more, flow_number, is_endpoint}
 use Rattle.ca_machine.specs.Plan.{Plan}
 use Rattle.ca_machine.specs.Plan.Answer.{found, out_of_memory}
-use Rattle.ca_machine.specs.Devices.{add_plan, add_rows, new_endpoint}
+use Rattle.ca_machine.specs.Devices.{add_plan, add_rows, flow_numbered, new_endpoint}
+use Rattle.ca_machine.proofs.DevicesGive.{found_gives_none, passes_unread, short_gives_none}
+use Rattle.ca_machine.specs.Periods.{period_frames}
 use Rattle.ca_machine.specs.View.{AnswersBy, outside}
 use Rattle.period_engine.specs.declared.entry.StreamEntry.{StreamEntry}
 use Rattle.period_engine.specs.Entries.{streams_of}
+use Rattle.period_engine.specs.Sounds.{IsBlockFor}
 use Rattle.service_book.specs.InOrder.{IsBook}
 use Rattle.service_book.proofs.Rows.{row_fails}
 use Rattle.service_board.specs.Board.{playhead_of, stage_with, state_of}
@@ -52,6 +60,7 @@ stays_does faults told moves stays b new entries plan result payload answers = r
   made = λ client.
       subst (λ es. Made moves None [] (store_at client b.entries.items) (store_at client es)) (sym entries)
       (made_still moves None stays (store_at client b.entries.items));
+  packs = λ client. tt;
   does = λ datas tally agrees knows. record { tally = tally; answers = answers datas tally };
 }
 
@@ -104,19 +113,51 @@ next_stays n seats s =
     subst (λ o. next_at n seats ≤ option_map_or (λ (t : Seat). t.next) o 0)
     (sym (find-append (is_seat n) seats (s ∷ []))) (next_or (find (is_seat n) seats) (find (is_seat n) (s ∷ [])))
 
+-- ---- the seat of an endpoint, with a new block
+
+no_less : (size samples : ℕ) → samples ≡ size → size ≤ samples
+no_less size samples e = omega arith
+
+two_each : (size bytes : ℕ) → bytes ≡ 2 * size → size * 2 ≤ bytes
+two_each size bytes e = omega arith
+
+pub seat_made : (seat : Seat) (e : Endpoint) → seat.endpoint.0 ≡ e.no.0 → seat.next ≤ MAX_COUNT →
+    IsBlockFor (period_frames e) e.format.channels seat.block → IsValid e.format → Seats seat e
+seat_made seat e number next block valid = record {
+  number = number;
+  next = next;
+  block = no_less (period_frames e * e.format.channels) seat.block.samples block.samples;
+  feed = record {
+    some = valid.some_channel;
+    few = valid.few_channels;
+    words = no_less (period_frames e) seat.block.frames block.frames_are;
+    bytes = two_each (period_frames e * e.format.channels) (length seat.block.bytes) block.bytes;
+  };
+  format = valid;
+}
+
+-- the flow of a number
+pub flow_is : (f : Flow) (n : ℕ) → flow_number f ≡ n → f ≡ flow_numbered n
+flow_is flow.Render n e = ap flow_numbered e
+flow_is flow.Capture n e = ap flow_numbered e
+
 -- ---- an endpoint is added
 
 module _ {D E : Type 0} (state : E → EndState) (b : Board D E) (order : InOrder state b) (number flow : ℕ)
     (format name : List ℕ) (says : Says b (λ st. add_rows st number flow format name) None) where
-  -- there is room for an endpoint more, and its number is new
-  pub free_to_add : (length b.book.registry.list < ENDPOINTS) × (b.book.registry.last < number)
+  -- there is room for an endpoint more, its number is new, and its flow is one that there is
+  pub free_to_add :
+      (length b.book.registry.list < ENDPOINTS) × (b.book.registry.last < number) × (flow ≤ FLOW_CAPTURE)
   free_to_add =
       let runs = row_fails b.book.is_shut hr.SERVICE_NOT_RUNNING _ (says (λ client. no_data) no_tally) in
-      let first = row_fails _ hr.E_NOTIMPL _ runs.1 in
-      let second = row_fails _ hr.E_INVALIDARG _ first.1 in
+      let second = row_fails _ hr.E_INVALIDARG _ runs.1 in
       let third = row_fails (nat_le ENDPOINTS (length b.book.registry.list)) hr.ENDPOINTS_FULL None second.1 in
       let above = or_parts (nat_le number b.book.registry.last) _ second.0 in
-      (leb-false ENDPOINTS (length b.book.registry.list) third.0, leb-false number b.book.registry.last above.0)
+      let small = or_parts (nat_lt FLOW_CAPTURE flow) _ above.1 in (
+        leb-false ENDPOINTS (length b.book.registry.list) third.0,
+        leb-false number b.book.registry.last above.0,
+        ltb-false FLOW_CAPTURE flow small.0,
+      )
 
   below_number : AllByRecursion (λ e. e.no.0 ≤ b.book.registry.last) b.book.registry.list
   below_number =
@@ -132,12 +173,13 @@ module _ {D E : Type 0} (state : E → EndState) (b : Board D E) (order : InOrde
       answers_granted_by (state_of datas tally b) (add_plan (state_of datas tally b) number flow format name)
       hr.E_OUTOFMEMORY [] (state_of datas tally b) (outside faults told b.devices) (outside faults told b.devices)
       (out_of_memory ∷ []) (says datas tally) tt refl refl refl
-      (record { tells = add_none (told b.devices); counts = refl }))
+      (passes_unread (outside faults told b.devices) (outside faults told b.devices) [] (out_of_memory ∷ [])
+      short_gives_none (add_none (told b.devices)) refl))
 
   module _ (new : Board D E) (endpoint : Endpoint) (seat : Seat)
       (pushed : new.book.registry ≡ with_one_more endpoint b.book.registry)
       (seated : new.seats.items ≡ b.seats.items ++ seat ∷ [])
-      (endpoint_is : endpoint ≡ new_endpoint number format name)
+      (endpoint_is : endpoint ≡ new_endpoint number flow format name)
       (seat_is : playhead_of seat ≡ record { number = number; next = 0 })
     where
       abbrev pub added_board : Board D E
@@ -189,34 +231,40 @@ module _ {D E : Type 0} (state : E → EndState) (b : Board D E) (order : InOrde
           (ap₂ (λ es last. (es, last))
           (list_is ∙ ap (λ (e : Endpoint). b.book.registry.list ++ e ∷ []) endpoint_is) last_is)
           (stage_is datas))
-          (record { tells = add_none (told b.devices); counts = refl }))
+          (passes_unread (outside faults told b.devices) (outside faults told b.devices) [] (found ∷ [])
+          found_gives_none (add_none (told b.devices)) refl))
 
       -- ---- the order of the board
 
-      still_on : (n channels position : ℕ) → IsOn n channels position b.book.registry.list b.seats.items →
-          IsOn n channels position new.book.registry.list new.seats.items
-      still_on n channels position on =
-          let before = on.behind in
+      -- a next place is no lower
+      no_lower : (n count : ℕ) → count ≤ next_at n b.seats.items → count ≤ next_at n new.seats.items
+      no_lower n count le =
           let rises = next_stays n b.seats.items seat in
           let after : next_at n new.seats.items ≡ next_at n (b.seats.items ++ seat ∷ []) = ap (next_at n) seated in
-          record {
-            endpoint = on.endpoint;
-            there =
-                ap (find (is_endpoint n)) list_is
-                ∙ still_found (is_endpoint n) b.book.registry.list on.endpoint endpoint on.there;
-            fits = on.fits;
-            behind = omega arith;
-          }
+          omega arith
+
+      still_on : (e : StreamEntry E) → IsOn e b.book.registry.list b.seats.items →
+          IsOn e new.book.registry.list new.seats.items
+      still_on e on = record {
+        endpoint = on.endpoint;
+        there =
+            ap (find (is_endpoint e.endpoint.0)) list_is
+            ∙ still_found (is_endpoint e.endpoint.0) b.book.registry.list on.endpoint endpoint on.there;
+        fits = on.fits;
+        lasts = on.lasts;
+        suited = on.suited;
+        behind = no_lower e.endpoint.0 e.position on.behind;
+        hears = λ is. no_lower e.endpoint.0 e.ever (on.hears is);
+      }
 
       still_belongs : (e : StreamEntry E) → Belongs b.book b.seats.items e → Belongs added_board.book new.seats.items e
       still_belongs e h = record {
         client = h.client;
         live = h.live;
         on = h.on;
-        opens = λ unclosed. still_on e.endpoint.0 e.channels e.position (h.opens unclosed);
+        opens = λ unclosed. still_on e (h.opens unclosed);
         within = h.within;
         gains = h.gains;
-        renders = h.renders;
       }
 
       added_book : IsBook added_board.book

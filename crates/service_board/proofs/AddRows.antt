@@ -1,5 +1,5 @@
 -- Add: what its rows say of a board, and what it makes of one.
-use Rattle.std.proofs.Common.{◌≡◌, ℕ, ◌<◌, ◌==◌, ◌||◌, nat_le, nat_lt, not, List, [], ◌∷◌, length, arith}
+use Rattle.std.proofs.Common.{◌≡◌, ℕ, ◌<◌, ◌||◌, nat_le, nat_lt, not, List, [], ◌∷◌, length, arith}
 use Rattle.std.proofs.Common.{Bool, true, false, Option, Some, None, refl, sym}
 use Rattle.std.proofs.Common.{Ok, Err, is_some}
 use Rattle.std.specs.Str.{is_utf8}
@@ -60,7 +60,7 @@ right_values false true f u h k = h
 right_values false false true u h k = k
 right_values false false false u h k = h
 
--- those behind the ones of a shutdown and of what comes later
+-- those behind the one of a shutdown
 abbrev pub own_add_rows : State → ℕ → ℕ → List ℕ → List ℕ → List (Row Hr)
 own_add_rows st number flow format name = (
   nat_le number st.last_endpoint
@@ -70,30 +70,23 @@ own_add_rows st number flow format name = (
     ∷ (nat_le ENDPOINTS (length st.endpoints), hr.ENDPOINTS_FULL)
     ∷ []
 
-pub later_says : {D E : Type 0} (b : Board D E) (number flow : ℕ) (format name : List ℕ) → b.book.is_shut ≡ false →
-    (flow == FLOW_CAPTURE) ≡ true → Says b (λ st. add_rows st number flow format name) (Some hr.E_NOTIMPL)
-later_says b number flow format name runs later datas tally =
-    row_passes b.book.is_shut hr.SERVICE_NOT_RUNNING _ runs (row_holds (flow == FLOW_CAPTURE) hr.E_NOTIMPL _ later)
-
 module _ {D E : Type 0} (b : Board D E) (number flow : ℕ) (format name : List ℕ)
-    (runs : b.book.is_shut ≡ false) (now : (flow == FLOW_CAPTURE) ≡ false) where
+    (runs : b.book.is_shut ≡ false) where
   pub wrong_says : true ≡ (nat_le number b.book.registry.last || (nat_lt FLOW_CAPTURE flow || not (is_utf8 name))) →
       Says b (λ st. add_rows st number flow format name) (Some hr.E_INVALIDARG)
   wrong_says h datas tally =
       row_passes _ hr.SERVICE_NOT_RUNNING _ runs
-      (row_passes _ hr.E_NOTIMPL _ now
       (row_holds _ hr.E_INVALIDARG _
       (wrong_value (nat_le number b.book.registry.last) (nat_lt FLOW_CAPTURE flow) (is_faulty format)
-      (not (is_utf8 name)) (sym h))))
+      (not (is_utf8 name)) (sym h)))
 
   pub faulty_says : (fault : FormatFault) → Err fault ≡ format_at format →
       Says b (λ st. add_rows st number flow format name) (Some hr.E_INVALIDARG)
   faulty_says fault e datas tally =
       row_passes _ hr.SERVICE_NOT_RUNNING _ runs
-      (row_passes _ hr.E_NOTIMPL _ now
       (row_holds _ hr.E_INVALIDARG _
       (wrong_format (nat_le number b.book.registry.last) (nat_lt FLOW_CAPTURE flow) (is_faulty format)
-      (not (is_utf8 name)) (faulty format fault e))))
+      (not (is_utf8 name)) (faulty format fault e)))
 
   module _ (right : false ≡ (nat_le number b.book.registry.last || (nat_lt FLOW_CAPTURE flow || not (is_utf8 name))))
       (read : Format) (spells : format_at format ≡ Ok read) where
@@ -101,21 +94,19 @@ module _ {D E : Type 0} (b : Board D E) (number flow : ℕ) (format name : List 
         Says b (λ st. add_rows st number flow format name) (Some hr.ENDPOINTS_FULL)
     full_says h datas tally =
         row_passes _ hr.SERVICE_NOT_RUNNING _ runs
-        (row_passes _ hr.E_NOTIMPL _ now
         (row_passes _ hr.E_INVALIDARG _
         (right_values (nat_le number b.book.registry.last) (nat_lt FLOW_CAPTURE flow) (is_faulty format)
         (not (is_utf8 name)) (sym right) (read_is format read spells).0)
-        (row_holds _ hr.ENDPOINTS_FULL _ h)))
+        (row_holds _ hr.ENDPOINTS_FULL _ h))
 
     pub free_says : nat_le ENDPOINTS (length b.book.registry.list) ≡ false →
         Says b (λ st. add_rows st number flow format name) None
     free_says h datas tally =
         row_passes _ hr.SERVICE_NOT_RUNNING _ runs
-        (row_passes _ hr.E_NOTIMPL _ now
         (row_passes _ hr.E_INVALIDARG _
         (right_values (nat_le number b.book.registry.last) (nat_lt FLOW_CAPTURE flow) (is_faulty format)
         (not (is_utf8 name)) (sym right) (read_is format read spells).0)
-        (row_passes _ hr.ENDPOINTS_FULL _ h refl)))
+        (row_passes _ hr.ENDPOINTS_FULL _ h refl))
 
 -- no row of the registry's own refuses what none of these does
 pub free_rows : (registry : EndpointList) (number : ℕ) →

@@ -7,15 +7,15 @@ use Rattle.std.proofs.lemmas.Bool.Decides.{nat_tests}
 use Rattle.std.proofs.lemmas.Option.{none-some}
 use Rattle.buffer_ring.specs.declared.step.Step.{Step}
 use Rattle.buffer_ring.specs.declared.step.Step.TheVariants as step
-use Rattle.ca_stage.specs.Stage.{Stream, BufferData}
+use Rattle.ca_stage.specs.Stage.{Stream, BufferData, is_render}
 use Rattle.ca_stage.specs.Order.{RisesFrom}
 use Rattle.ca_stage.proofs.Lists.{all_weaker, all_both, chosen}
 use Rattle.period_engine.specs.declared.entry.StreamEntry.{StreamEntry}
-use Rattle.period_engine.specs.Agreement.{Agrees, AllAgree, data_after, data_on}
+use Rattle.period_engine.specs.Agreement.{Agrees, AllAgree, ArePacked, Layout, data_after, data_on, layout_of}
 use Rattle.period_engine.specs.Entries.{stream_with, streams_of}
 use Rattle.period_engine.specs.Sounds.{AllTakeSteps, TakesSteps}
 use Rattle.period_engine.specs.SubSteps.{IsSameEntry, Turned}
-use Rattle.service_board.specs.Does.{Made, after_steps, channels_at, store_at}
+use Rattle.service_board.specs.Does.{Made, after_steps, layout_at, no_layout, store_at}
 use Rattle.service_board.specs.Plays.{AllGo, GoesBy}
 
 -- the clients of entries
@@ -24,21 +24,26 @@ clients_of entries = map (λ e. e.client.0) entries
 
 -- ---- steps after steps
 
-pub data-append : (n : ℕ) (s t : List Step) (d : BufferData) →
-    data_after n (s ++ t) d ≡ data_after n t (data_after n s d)
-data-append n [] t d = refl
-data-append n (step.Acts found gate deed ∷ s) t d = data-append n s t (data_on n deed d)
-data-append n (step.Reads place word ∷ s) t d = data-append n s t d
+pub data-append : (l : Layout) (s t : List Step) (d : BufferData) →
+    data_after l (s ++ t) d ≡ data_after l t (data_after l s d)
+data-append l [] t d = refl
+data-append l (step.Acts found gate deed ∷ s) t d = data-append l s t (data_on l deed d)
+data-append l (step.Reads place word ∷ s) t d = data-append l s t d
 
-pub agrees-append : (n : ℕ) (s t : List Step) (d : BufferData) → Agrees n (s ++ t) d →
-    Agrees n s d × Agrees n t (data_after n s d)
-agrees-append n [] t d h = (tt, h)
-agrees-append n (step.Acts found gate deed ∷ s) t d h =
-    let rest = agrees-append n s t (data_on n deed d) h.1 in
+pub agrees-append : (l : Layout) (s t : List Step) (d : BufferData) → Agrees l (s ++ t) d →
+    Agrees l s d × Agrees l t (data_after l s d)
+agrees-append l [] t d h = (tt, h)
+agrees-append l (step.Acts found gate deed ∷ s) t d h =
+    let rest = agrees-append l s t (data_on l deed d) h.1 in
     ((h.0, rest.0), rest.1)
-agrees-append n (step.Reads place word ∷ s) t d h =
-    let rest = agrees-append n s t d h.1 in
+agrees-append l (step.Reads place word ∷ s) t d h =
+    let rest = agrees-append l s t d h.1 in
     ((h.0, rest.0), rest.1)
+
+pub packed-append : (l : Layout) (s t : List Step) → ArePacked l s → ArePacked l t → ArePacked l (s ++ t)
+packed-append l [] t h k = k
+packed-append l (step.Acts found gate deed ∷ s) t h k = (h.0, packed-append l s t h.1 k)
+packed-append l (step.Reads place word ∷ s) t h k = packed-append l s t h k
 
 pub same_after : {E : Type 0} (a b c : StreamEntry E) → IsSameEntry a b → IsSameEntry b c → IsSameEntry a c
 same_after a b c h k = record {
@@ -57,6 +62,12 @@ same_after a b c h k = record {
   gains = k.gains ∙ h.gains;
 }
 
+-- the words of an entry's store stand for the same
+pub same_layout : {E : Type 0} (a b : StreamEntry E) → IsSameEntry a b → layout_of b ≡ layout_of a
+same_layout a b h =
+    ap (λ k. record { plays = is_render k; channels = b.channels; period = b.period }) h.kind
+    ∙ ap₂ (λ n m. record { plays = is_render a.kind; channels = n; period = m }) h.channels h.period
+
 -- ---- entries of other clients
 
 above_each : {E : Type 0} (n low : ℕ) (xs : List (StreamEntry E)) → n < low → RisesFrom low (clients_of xs) →
@@ -72,27 +83,27 @@ pub others : {E : Type 0} (low : ℕ) (x : StreamEntry E) (xs : List (StreamEntr
     RisesFrom low (clients_of (x ∷ xs)) → AllByRecursion (λ e. (x.client.0 == e.client.0) ≡ false) xs
 others low x xs rises = above_each x.client.0 (suc x.client.0) xs (omega arith) rises.1
 
--- the channels of each entry are found by its client
-pub channels_found : {E : Type 0} (low : ℕ) (xs : List (StreamEntry E)) → RisesFrom low (clients_of xs) →
-    AllByRecursion (λ e. channels_at e.client.0 xs ≡ e.channels) xs
-channels_found low [] rises = tt
-channels_found low (x ∷ xs) rises = (
-  ap (λ b. if b then x.channels else channels_at x.client.0 xs) (eq-eqb x.client.0 x.client.0 refl),
-  all_both (λ e. (x.client.0 == e.client.0) ≡ false) (λ e. channels_at e.client.0 xs ≡ e.channels)
-      (λ e. channels_at e.client.0 (x ∷ xs) ≡ e.channels)
-      (λ e other found. ap (λ b. if b then x.channels else channels_at e.client.0 xs) other ∙ found) xs
-      (others low x xs rises) (channels_found (suc x.client.0) xs rises.1),
+-- the layout of each entry is found by its client
+pub layout_found : {E : Type 0} (low : ℕ) (xs : List (StreamEntry E)) → RisesFrom low (clients_of xs) →
+    AllByRecursion (λ e. layout_at e.client.0 xs ≡ layout_of e) xs
+layout_found low [] rises = tt
+layout_found low (x ∷ xs) rises = (
+  ap (λ b. if b then layout_of x else layout_at x.client.0 xs) (eq-eqb x.client.0 x.client.0 refl),
+  all_both (λ e. (x.client.0 == e.client.0) ≡ false) (λ e. layout_at e.client.0 xs ≡ layout_of e)
+      (λ e. layout_at e.client.0 (x ∷ xs) ≡ layout_of e)
+      (λ e other found. ap (λ b. if b then layout_of x else layout_at e.client.0 xs) other ∙ found) xs
+      (others low x xs rises) (layout_found (suc x.client.0) xs rises.1),
 )
 
 -- what the data of an entry's client are after its steps
 abbrev pub AreAfter : {E : Type 0} → (ℕ → List Step) → (ℕ → BufferData) → (ℕ → BufferData) → StreamEntry E → Type 0
-AreAfter steps datas datas' e = datas' e.client.0 ≡ data_after e.channels (steps e.client.0) (datas e.client.0)
+AreAfter steps datas datas' e = datas' e.client.0 ≡ data_after (layout_of e) (steps e.client.0) (datas e.client.0)
 
 pub are_after : {E : Type 0} (steps : ℕ → List Step) (xs : List (StreamEntry E)) (datas : ℕ → BufferData) →
     RisesFrom 0 (clients_of xs) → AllByRecursion (AreAfter steps datas (after_steps steps xs datas)) xs
 are_after steps xs datas rises =
-    all_weaker (λ e. channels_at e.client.0 xs ≡ e.channels) (AreAfter steps datas (after_steps steps xs datas))
-    (λ e found. ap (λ n. data_after n (steps e.client.0) (datas e.client.0)) found) xs (channels_found 0 xs rises)
+    all_weaker (λ e. layout_at e.client.0 xs ≡ layout_of e) (AreAfter steps datas (after_steps steps xs datas))
+    (λ e found. ap (λ l. data_after l (steps e.client.0) (datas e.client.0)) found) xs (layout_found 0 xs rises)
 
 -- ---- steps of clients that have an entry
 
@@ -143,7 +154,8 @@ module _ {E : Type 0} (moves : E → List Step → E → Type 0) where
   turned_goes : (f : Stream → Stream) (a b : StreamEntry E) (t : Turned moves f a b) (ss : List Step) →
       ss ≡ t.steps → GoesBy moves f ss a b
   turned_goes f a b t ss e =
-      subst (λ ss. GoesBy moves f ss a b) (sym e) (record { same = t.same; made = t.made; turns = t.turns })
+      subst (λ ss. GoesBy moves f ss a b) (sym e)
+      (record { same = t.same; made = t.made; packs = t.packs; turns = t.turns })
 
   pub all_turned : (f : Stream → Stream) (low : ℕ) (xs ys : List (StreamEntry E)) (h : AllZip (Turned moves f) xs ys) →
       RisesFrom low (clients_of xs) → AllGo moves f (steps_of f xs ys h) xs ys
@@ -167,15 +179,16 @@ module _ {E : Type 0} (moves : E → List Step → E → Type 0) where
   same_stream d a b ss h = let same = h.same in cc
 
   pub all_read : (steps : ℕ → List Step) (xs ys : List (StreamEntry E)) →
-      ((d : BufferData) (client channels : ℕ) → data_after channels (steps client) d ≡ d) →
+      ((d : BufferData) (client : ℕ) (l : Layout) → data_after l (steps client) d ≡ d) →
       AllTakeSteps moves steps xs ys → AllGo moves (λ s. s) steps xs ys
   all_read steps [] [] reads h = tt
   all_read steps (x ∷ xs) (y ∷ ys) reads h = (
     record {
       same = h.0.same;
       made = h.0.made;
+      packs = h.0.packs (layout_of x);
       turns = λ d agrees. same_stream d x y (steps x.client.0) h.0
-          ∙ ap (λ d'. stream_with d' y) (sym (reads d x.client.0 x.channels));
+          ∙ ap (λ d'. stream_with d' y) (sym (reads d x.client.0 (layout_of x)));
     },
     all_read steps xs ys reads h.1,
   )
@@ -187,17 +200,18 @@ module _ {E : Type 0} (moves : E → List Step → E → Type 0) where
       (moves a.store s b.store → moves b.store t c.store → moves a.store (s ++ t) c.store) →
       GoesBy moves f s a b → GoesBy moves g t b c → GoesBy moves (λ x. g (f x)) (s ++ t) a c
   one_after f g s t a b c joins h k =
-      let second : (d : BufferData) → Agrees a.channels t d →
-      g (stream_with d b) ≡ stream_with (data_after a.channels t d) c =
-      subst (λ n. (d : BufferData) → Agrees n t d → g (stream_with d b) ≡ stream_with (data_after n t d) c)
-      h.same.channels k.turns in
+      let l = layout_of a in
+      let second : (d : BufferData) → Agrees l t d → g (stream_with d b) ≡ stream_with (data_after l t d) c =
+      subst (λ m. (d : BufferData) → Agrees m t d → g (stream_with d b) ≡ stream_with (data_after m t d) c)
+      (same_layout a b h.same) k.turns in
       record {
         same = same_after a b c h.same k.same;
         made = joins h.made k.made;
+        packs = packed-append l s t h.packs (subst (λ m. ArePacked m t) (same_layout a b h.same) k.packs);
         turns = λ d agrees.
-            ap g (h.turns d (agrees-append a.channels s t d agrees).0)
-            ∙ second (data_after a.channels s d) (agrees-append a.channels s t d agrees).1
-            ∙ ap (λ d'. stream_with d' c) (sym (data-append a.channels s t d));
+            ap g (h.turns d (agrees-append l s t d agrees).0)
+            ∙ second (data_after l s d) (agrees-append l s t d agrees).1
+            ∙ ap (λ d'. stream_with d' c) (sym (data-append l s t d));
       }
 
   module _ (joins : (a b c : E) (s t : List Step) → moves a s b → moves b t c → moves a (s ++ t) c) where
@@ -241,20 +255,23 @@ module _ {E : Type 0} (moves : E → List Step → E → Type 0) where
   pub agree_first : (s t : ℕ → List Step) (datas : ℕ → BufferData) (xs : List (StreamEntry E)) →
       AllAgree (λ n. s n ++ t n) datas xs → AllAgree s datas xs
   agree_first s t datas [] h = tt
-  agree_first s t datas (x ∷ xs) h =
-      ((agrees-append x.channels (s x.client.0) (t x.client.0) (datas x.client.0) h.0).0, agree_first s t datas xs h.1)
+  agree_first s t datas (x ∷ xs) h = (
+    (agrees-append (layout_of x) (s x.client.0) (t x.client.0) (datas x.client.0) h.0).0,
+    agree_first s t datas xs h.1,
+  )
 
   pub agree_then : (f : Stream → Stream) (s t : ℕ → List Step) (datas datas' : ℕ → BufferData)
       (xs ys : List (StreamEntry E)) → AllGo moves f s xs ys → AllByRecursion (AreAfter s datas datas') xs →
       AllAgree (λ n. s n ++ t n) datas xs → AllAgree t datas' ys
   agree_then f s t datas datas' [] [] h after agree = tt
   agree_then f s t datas datas' (x ∷ xs) (y ∷ ys) h after agree =
-      let here = (agrees-append x.channels (s x.client.0) (t x.client.0) (datas x.client.0) agree.0).1 in
-      let at_data : Agrees x.channels (t x.client.0) (datas' x.client.0) =
-      subst (Agrees x.channels (t x.client.0)) (sym after.0) here in
-      let at_client : Agrees x.channels (t y.client.0) (datas' y.client.0) =
-      subst (λ c. Agrees x.channels (t c.0) (datas' c.0)) (sym h.0.same.client) at_data in (
-        subst (λ n. Agrees n (t y.client.0) (datas' y.client.0)) (sym h.0.same.channels) at_client,
+      let l = layout_of x in
+      let here = (agrees-append l (s x.client.0) (t x.client.0) (datas x.client.0) agree.0).1 in
+      let at_data : Agrees l (t x.client.0) (datas' x.client.0) =
+      subst (Agrees l (t x.client.0)) (sym after.0) here in
+      let at_client : Agrees l (t y.client.0) (datas' y.client.0) =
+      subst (λ c. Agrees l (t c.0) (datas' c.0)) (sym h.0.same.client) at_data in (
+        subst (λ m. Agrees m (t y.client.0) (datas' y.client.0)) (sym (same_layout x y h.0.same)) at_client,
         agree_then f s t datas datas' xs ys h.1 after.1 agree.1,
       )
   agree_then f s t datas datas' [] (y ∷ ys) h after agree = absurd h
@@ -277,8 +294,24 @@ module _ {E : Type 0} (moves : E → List Step → E → Type 0) where
   all_made f s given [] (y ∷ ys) h n none = absurd h
   all_made f s given (x ∷ xs) [] h n none = absurd h
 
+-- and its steps took whole packets
+pub all_packed : {E : Type 0} (moves : E → List Step → E → Type 0) (f : Stream → Stream) (s : ℕ → List Step)
+    (xs ys : List (StreamEntry E)) → AllGo moves f s xs ys → (n : ℕ) → (store_at n xs ≡ None → s n ≡ []) →
+    ArePacked (layout_at n xs) (s n)
+all_packed moves f s [] [] h n none = subst (ArePacked no_layout) (sym (none refl)) tt
+all_packed moves f s (x ∷ xs) (y ∷ ys) h n none =
+    by_test (x.client.0 == n) refl none (all_packed moves f s xs ys h.1 n)
+  where
+    by_test : (b : Bool) → (x.client.0 == n) ≡ b → ((if b then Some x.store else store_at n xs) ≡ None → s n ≡ []) →
+        ((store_at n xs ≡ None → s n ≡ []) → ArePacked (layout_at n xs) (s n)) →
+        ArePacked (if b then layout_of x else layout_at n xs) (s n)
+    by_test true e none rest = subst (λ k. ArePacked (layout_of x) (s k)) (eqb-true x.client.0 n e) h.0.packs
+    by_test false e none rest = rest none
+all_packed moves f s [] (y ∷ ys) h n none = absurd h
+all_packed moves f s (x ∷ xs) [] h n none = absurd h
+
 pub agree_alike : {E : Type 0} (s t : ℕ → List Step) (datas : ℕ → BufferData) (xs : List (StreamEntry E)) →
     AllByRecursion (λ e. t e.client.0 ≡ s e.client.0) xs → AllAgree t datas xs → AllAgree s datas xs
 agree_alike s t datas [] same h = tt
 agree_alike s t datas (x ∷ xs) same h =
-    (subst (λ ss. Agrees x.channels ss (datas x.client.0)) same.0 h.0, agree_alike s t datas xs same.1 h.1)
+    (subst (λ ss. Agrees (layout_of x) ss (datas x.client.0)) same.0 h.0, agree_alike s t datas xs same.1 h.1)

@@ -8,13 +8,14 @@ use Rattle.std.proofs.lemmas.Bool.{true≢false}
 use Rattle.std.proofs.lemmas.Bool.Decides.{nat_tests}
 use Rattle.std.proofs.lemmas.Option.{none-some, same_Some}
 use Rattle.ca_base.specs.declared.ids.Reason.{Reason}
-use Rattle.ca_base.specs.declared.limits.TheConstants.{ENDPOINTS}
+use Rattle.ca_base.specs.declared.limits.TheConstants.{ENDPOINTS, SHARED_PERIOD}
+use Rattle.wave_format.specs.Format.{frames_of_time}
 use Rattle.buffer_ring.specs.declared.step.EndState.{EndState}
 use Rattle.buffer_ring.specs.declared.step.Step.{Step}
 use Rattle.ca_stage.specs.Stage.{BufferData}
 use Rattle.ca_stage.specs.Order.{RisesFrom}
 use Rattle.ca_stage.specs.Tally.{Tally, tally_after}
-use Rattle.ca_stage.proofs.Lists.{chosen_by, found_passes}
+use Rattle.ca_stage.proofs.Lists.{chosen, chosen_by, found_passes}
 use Rattle.device_registry.specs.declared.endpoint.Endpoint.{Endpoint}
 use Rattle.device_registry.specs.Changes.{with_changed}
 use Rattle.device_registry.specs.Endpoints.{EndpointList, changed, is_endpoint}
@@ -25,7 +26,7 @@ use Rattle.service_book.specs.BookState.{book_state}
 use Rattle.service_book.specs.declared.book.Book.{Book}
 use Rattle.service_board.specs.Board.{playhead_of, state_of}
 use Rattle.service_board.specs.Closing.{Disconnects}
-use Rattle.service_board.specs.InOrder.{InOrder, IsOn, Seats, next_at}
+use Rattle.service_board.specs.InOrder.{InOrder, IsOn, Seats, next_at, suits}
 use Rattle.service_board.specs.declared.board.Board.{Board}
 use Rattle.service_board.specs.declared.board.Seat.{Seat}
 use Rattle.service_board.proofs.ChangedEndpoints.{book_changed, found_changed}
@@ -135,8 +136,11 @@ module _ {D E : Type 0} (moves : E → List Step → E → Type 0) (state : E �
       }
 
   module _ (keeps_number : (e : Endpoint) → (f e).no ≡ e.no)
+      (keeps_flow : (e : Endpoint) → (f e).flow ≡ e.flow)
       (keeps_channels : (e : Endpoint) → find (is_endpoint number) b.book.registry.list ≡ Some e → lost ≡ false →
       (f e).format.channels ≡ e.format.channels)
+      (keeps_rate : (e : Endpoint) → find (is_endpoint number) b.book.registry.list ≡ Some e → lost ≡ false →
+      (f e).format.rate ≡ e.format.rate)
       (next : (n : ℕ) → next_at n seats.items ≡ next_at n b.seats.items)
     where
       abbrev one : Endpoint → Endpoint
@@ -146,29 +150,41 @@ module _ {D E : Type 0} (moves : E → List Step → E → Type 0) (state : E �
       not_lost true n left same = absurd (true≢false (sym (eq-eqb n number same) ∙ left))
       not_lost false n left same = refl
 
-      still_channels : (n : ℕ) (e : Endpoint) → is_lost lost (Some number) n ≡ false →
-          find (is_endpoint n) b.book.registry.list ≡ Some e → (one e).format.channels ≡ e.format.channels
-      still_channels n e left found =
+      still_flow : (e : Endpoint) → (one e).flow ≡ e.flow
+      still_flow e = chosen (λ (x : Endpoint). x.flow ≡ e.flow) (is_endpoint number e) (f e) e (keeps_flow e) refl
+
+      -- what the change leaves of the endpoint that it is of, it leaves of each
+      still : (value : Endpoint → ℕ) →
+          ((e : Endpoint) → find (is_endpoint number) b.book.registry.list ≡ Some e → lost ≡ false →
+          value (f e) ≡ value e) → (n : ℕ) (e : Endpoint) → is_lost lost (Some number) n ≡ false →
+          find (is_endpoint n) b.book.registry.list ≡ Some e → value (one e) ≡ value e
+      still value keeps n e left found =
           let own : e.no.0 ≡ n = eqb-true e.no.0 n (found_passes (is_endpoint n) b.book.registry.list e found) in
-          chosen_by (λ (x : Endpoint). x.format.channels ≡ e.format.channels) (is_endpoint number e) (f e) e
+          chosen_by (λ (x : Endpoint). value x ≡ value e) (is_endpoint number e) (f e) e
           (λ here.
           let same : n ≡ number = sym own ∙ eqb-true e.no.0 number here in
-          keeps_channels e (ap (λ k. find (is_endpoint k) b.book.registry.list) (sym same) ∙ found)
+          keeps e (ap (λ k. find (is_endpoint k) b.book.registry.list) (sym same) ∙ found)
           (not_lost lost n left same))
           (λ other. refl)
 
-      keeps_on : (n channels position : ℕ) → is_lost lost (Some number) n ≡ false →
-          IsOn n channels position b.book.registry.list b.seats.items →
-          IsOn n channels position registry.list seats.items
-      keeps_on n channels position left on = record {
-        endpoint = one on.endpoint;
-        there =
-            ap (λ (r : EndpointList). find (is_endpoint n) r.list) is
-            ∙ found_changed number f keeps_number n b.book.registry.list
-            ∙ ap (option_map one) on.there;
-        fits = on.fits ∙ sym (still_channels n on.endpoint left on.there);
-        behind = subst (λ k. position ≤ k) (sym (next n)) on.behind;
-      }
+      keeps_on : (e : StreamEntry E) → is_lost lost (Some number) e.endpoint.0 ≡ false →
+          IsOn e b.book.registry.list b.seats.items → IsOn e registry.list seats.items
+      keeps_on e left on =
+          let n = e.endpoint.0 in
+          let channels = still (λ x. x.format.channels) keeps_channels n on.endpoint left on.there in
+          let rate = still (λ x. x.format.rate) keeps_rate n on.endpoint left on.there in
+          record {
+            endpoint = one on.endpoint;
+            there =
+                ap (λ (r : EndpointList). find (is_endpoint n) r.list) is
+                ∙ found_changed number f keeps_number n b.book.registry.list
+                ∙ ap (option_map one) on.there;
+            fits = on.fits ∙ sym channels;
+            lasts = on.lasts ∙ sym (ap (λ k. frames_of_time k SHARED_PERIOD) rate);
+            suited = ap (λ k. suits k e.kind) (still_flow on.endpoint) ∙ on.suited;
+            behind = subst (λ k. e.position ≤ k) (sym (next n)) on.behind;
+            hears = λ loopback. subst (λ k. e.ever ≤ k) (sym (next n)) (on.hears loopback);
+          }
 
       pub changed_order : AllZip Seats seats.items (changed number f b.book.registry.list) →
           ENDPOINTS ≤ vec_capacity seats →

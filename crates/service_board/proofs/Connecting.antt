@@ -232,7 +232,6 @@ module _ {D E : Type 0} (b : Board D E) (conn process : ℕ) (name : List ℕ)
       opens = h.opens;
       within = h.within;
       gains = h.gains;
-      renders = h.renders;
     }
 
     pub open_order : InOrder state (record b { book = with_connection })

@@ -1,6 +1,6 @@
 -- A board is in order after a close of streams within a scope, with another book and other seats.
 use Rattle.std.proofs.Common.{◌≡◌, ℕ, suc, ◌≤◌, ◌==◌, ◌&&◌, List, [], ◌∷◌, length, map, Bool, true, false, Option}
-use Rattle.std.proofs.Common.{Some, None, refl, sym, ap, ap₂, ◌∙◌, subst, if◌then◌else◌}
+use Rattle.std.proofs.Common.{Some, None, refl, sym, ap, ap₂, ◌∙◌, subst, arith, if◌then◌else◌}
 use Rattle.std.specs.Global.{Vec}
 use Rattle.std.specs.List.{All, AllByRecursion, AllZip, find}
 use Rattle.std.specs.Vec.{vec_capacity}
@@ -27,6 +27,7 @@ use Rattle.role_defaults.specs.declared.choices.Choices.{Choices}
 use Rattle.period_engine.specs.declared.entry.StreamEntry.{StreamEntry}
 use Rattle.period_engine.specs.Entries.{IsRested, stream_with}
 use Rattle.period_engine.specs.SubSteps.{Turned}
+use Rattle.period_engine.proofs.Turns.{unmoved}
 use Rattle.service_book.specs.InOrder.{IsBook}
 use Rattle.service_book.specs.Gains.{gains_by}
 use Rattle.service_book.specs.declared.book.Book.{Book}
@@ -35,6 +36,7 @@ use Rattle.service_board.specs.InOrder.{Belongs, InOrder, IsOn, Seats}
 use Rattle.service_board.specs.declared.board.Board.{Board}
 use Rattle.service_board.specs.declared.board.Seat.{Seat}
 use Rattle.service_board.proofs.ByClient.{clients_of}
+use Rattle.service_board.proofs.StreamMoves.{on_kept}
 
 -- a close takes the open streams of an endpoint of this number
 abbrev pub is_lost : Bool → Option ℕ → ℕ → Bool
@@ -43,6 +45,9 @@ is_lost true None n = true
 is_lost true (Some number) n = n == number
 
 -- ---- an entry that is open still
+
+eq-le : {m n : ℕ} → m ≡ n → m ≤ n
+eq-le e = omega (arith, e)
 
 closed_opens : (reason : Reason) → gate.Closed reason ≡ gate.Open → ⊥
 closed_opens reason h = cc
@@ -87,6 +92,14 @@ module _ {E : Type 0} (moves : E → List Step → E → Type 0) where
       ∙ chosen (λ (s : Stream). s.position ≡ a.position) (is_open_within scope (stream_with no_data a))
       (moved (closed reason) (stream_with no_data a)) (stream_with no_data a) refl refl
 
+  same_ever : (lost : Bool) (reason : Reason) (scope : Option ℕ) (a b : StreamEntry E) →
+      Turned moves (closes_if lost reason scope) a b → b.ever ≡ a.ever
+  same_ever false reason scope a b turned = turned.ever
+  same_ever true reason scope a b turned =
+      turned.ever
+      ∙ chosen (λ (s : Stream). s.ever ≡ a.ever) (is_open_within scope (stream_with no_data a))
+      (moved (closed reason) (stream_with no_data a)) (stream_with no_data a) refl refl
+
   clients_turned : (f : Stream → Stream) (xs ys : List (StreamEntry E)) → AllZip (Turned moves f) xs ys →
       clients_of ys ≡ clients_of xs
   clients_turned f [] [] h = refl
@@ -107,16 +120,9 @@ module _ {E : Type 0} (moves : E → List Step → E → Type 0) where
   module _ (lost : Bool) (reason : Reason) (scope : Option ℕ) (book book' : Book) (seats seats' : List Seat)
       (clients : book'.clients.items ≡ book.clients.items) (sessions : book'.sessions ≡ book.sessions)
       (changed : book'.levels_changed ≡ book.levels_changed)
-      (keeps : (n channels position : ℕ) → is_lost lost scope n ≡ false →
-      IsOn n channels position book.registry.list seats → IsOn n channels position book'.registry.list seats')
+      (keeps : (e : StreamEntry E) → is_lost lost scope e.endpoint.0 ≡ false →
+      IsOn e book.registry.list seats → IsOn e book'.registry.list seats')
     where
-      on_as : (n m channels channels' p q : ℕ) → m ≡ n → channels' ≡ channels → q ≡ p →
-          IsOn n channels p book'.registry.list seats' → IsOn m channels' q book'.registry.list seats'
-      on_as n m channels channels' p q same fits place on =
-          subst (λ k. IsOn k channels' q book'.registry.list seats') (sym same)
-          (subst (λ k. IsOn n k q book'.registry.list seats') (sym fits)
-          (subst (λ k. IsOn n channels k book'.registry.list seats') (sym place) on))
-
       one_belongs : (a b : StreamEntry E) → Turned moves (closes_if lost reason scope) a b →
           Belongs book seats a → Belongs book' seats' b
       one_belongs a b turned h =
@@ -131,16 +137,15 @@ module _ {E : Type 0} (moves : E → List Step → E → Type 0) where
             on = h.on ∙ sym endpoint;
             opens = λ opens.
                 let was = still_open lost reason scope a b turned opens in
-                on_as a.endpoint.0 b.endpoint.0 a.channels b.channels a.position b.position endpoint
-                turned.same.channels (same_position lost reason scope a b turned)
-                (keeps a.endpoint.0 a.channels a.position was.1 (h.opens was.0));
+                on_kept book'.registry.list seats' a b turned.same
+                (eq-le (same_position lost reason scope a b turned)) (eq-le (same_ever lost reason scope a b turned))
+                (keeps a was.1 (h.opens was.0));
             within = subst (All (λ gain. gain ≤ unit_gain)) (sym turned.same.gains) h.within;
             gains = λ fresh.
                 turned.same.gains
                 ∙ h.gains (sym changed ∙ fresh)
                 ∙ ap₂ (λ (s : SessionNo) (list : List Session). gains_by h.client.levels (session_at s.0 list))
                 (sym turned.same.session) (ap (λ s. s.list) (sym sessions));
-            renders = turned.same.kind ∙ h.renders;
           }
 
       all_belong : (xs ys : List (StreamEntry E)) → AllZip (Turned moves (closes_if lost reason scope)) xs ys →
@@ -157,9 +162,8 @@ module _ {E : Type 0} (moves : E → List Step → E → Type 0) where
       (loses : Disconnects moves state lost reason scope b.entries entries) (book : Book) (seats : Vec Seat) where
     pub disconnected_order : book.clients.items ≡ b.book.clients.items → book.sessions ≡ b.book.sessions →
         book.levels_changed ≡ b.book.levels_changed →
-        ((n channels position : ℕ) → is_lost lost scope n ≡ false →
-        IsOn n channels position b.book.registry.list b.seats.items →
-        IsOn n channels position book.registry.list seats.items) →
+        ((e : StreamEntry E) → is_lost lost scope e.endpoint.0 ≡ false →
+        IsOn e b.book.registry.list b.seats.items → IsOn e book.registry.list seats.items) →
         AllZip Seats seats.items book.registry.list → IsBook book → ENDPOINTS ≤ vec_capacity seats →
         InOrder state (record b { book = book; seats = seats; entries = entries })
     disconnected_order clients sessions changed keeps fits is_book seat_room = record {
@@ -212,29 +216,7 @@ none_lost {E} moves stays state reason scope entries rested =
     record { turned = each entries.items; rested = rested; room = refl }
   where
     same : (a : StreamEntry E) → Turned moves (closes_if false reason scope) a a
-    same a = record {
-      same = record {
-        client = refl;
-        endpoint = refl;
-        kind = refl;
-        exclusive = refl;
-        event = refl;
-        channels = refl;
-        rate = refl;
-        buffer = refl;
-        period = refl;
-        room = refl;
-        latency = refl;
-        session = refl;
-        gains = refl;
-      };
-      steps = [];
-      made = stays a.store;
-      turns = λ d agrees. refl;
-      running = refl;
-      gate = refl;
-      position = refl;
-    }
+    same a = unmoved moves (closes_if false reason scope) a stays (λ d. refl)
 
     each : (xs : List (StreamEntry E)) → AllZip (Turned moves (closes_if false reason scope)) xs xs
     each [] = tt

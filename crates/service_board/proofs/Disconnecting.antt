@@ -32,8 +32,8 @@ use Rattle.service_board.specs.Lookups.{Says}
 use Rattle.service_board.specs.Plays.{AllGo}
 use Rattle.service_board.specs.declared.board.Board.{Board}
 use Rattle.service_board.specs.declared.board.Seat.{Seat}
-use Rattle.service_board.proofs.ByClient.{all_made, all_turned, are_after, go_alike, steps_of, streams_went, within}
-use Rattle.service_board.proofs.ByClient.{within_each, within_none}
+use Rattle.service_board.proofs.ByClient.{all_made, all_packed, all_turned, are_after, go_alike, steps_of}
+use Rattle.service_board.proofs.ByClient.{streams_went, within, within_each, within_none}
 use Rattle.service_board.proofs.Offering.{answers_granted_by}
 
 -- the closes of a stage are one map over its streams
@@ -129,6 +129,9 @@ module _ {D E : Type 0} (moves : E → List Step → E → Type 0) (state : E �
     disconnects_does faults told plan given says passes asks grants = record {
       steps = close_steps;
       made = made;
+      packs = λ client.
+          all_packed moves (closes_if lost reason scope) close_steps b.entries.items entries.items went client
+          (within_none b.entries.items turned_steps client);
       does = λ datas tally agree knows.
           let st = state_of datas tally b in
           let granted = grants datas tally in

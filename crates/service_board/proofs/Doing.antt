@@ -10,6 +10,7 @@ use Rattle.ca_machine.specs.State.{State}
 use Rattle.ca_machine.specs.Plan.{Plan, unless_refused, unless_row, AreAnswers}
 use Rattle.ca_machine.specs.Plan.Asked.{nothing}
 use Rattle.ca_machine.specs.View.{AnswersBy, Outside, Passes, outside}
+use Rattle.ca_machine.proofs.DevicesGive.{nothing_gives_none, passes_unread}
 use Rattle.service_board.specs.Board.{state_of}
 use Rattle.service_board.specs.Does.{Does, Made, store_at}
 use Rattle.service_board.specs.Lookups.{Says}
@@ -22,7 +23,7 @@ add_none (Some logs) = refl
 
 -- the environment was not asked
 pub not_asked : (out : Outside) → Passes out [] [] out
-not_asked out = record { tells = add_none out.told; counts = refl }
+not_asked out = passes_unread out out [] [] nothing_gives_none (add_none out.told) refl
 
 -- an event that a row refuses
 pub answers_refused : (st : State) (plan : Plan) (code : Hr) (out : Outside) → first plan.rows ≡ Some code →
@@ -66,10 +67,25 @@ pub refused_does : {D E : Type 0} (faults : D → ℕ) (told : D → Option (Lis
 refused_does faults told moves given known stays b plan code says = record {
   steps = λ client. [];
   made = λ client. made_still moves given stays (store_at client b.entries.items);
+  packs = λ client. tt;
   does = λ datas tally agrees knows. record {
     tally = tally;
     answers =
         answers_refused (state_of datas tally b) (plan (state_of datas tally b)) code (outside faults told b.devices)
         (says datas tally);
   };
+}
+
+-- what an event does where less is known, it does where more is
+pub known_more : {D E : Type 0} (faults : D → ℕ) (told : D → Option (List DeviceLog))
+    (moves : E → List Step → E → Type 0) (given : Option E) (known more : (ℕ → BufferData) → Type 0)
+    (old new : Board D E) (plan : State → Plan) (result : Hr) (payload : List ℕ) →
+    ((datas : ℕ → BufferData) → more datas → known datas) →
+    Does faults told moves given known old new plan result payload →
+    Does faults told moves given more old new plan result payload
+known_more faults told moves given known more old new plan result payload less h = record {
+  steps = h.steps;
+  made = h.made;
+  packs = h.packs;
+  does = λ datas tally agrees knows. h.does datas tally agrees (less datas knows);
 }

@@ -1,14 +1,17 @@
 -- The endpoint and the seat of a period, and which row refuses a period.
 use Rattle.std.proofs.Common.{◌≡◌, ℕ, zero, suc, ◌+◌, ◌<◌, ◌≤◌, ◌==◌, nat_lt, not, List, [], ◌∷◌, length, map, Bool}
-use Rattle.std.proofs.Common.{true}
+use Rattle.std.proofs.Common.{◌&&◌, ◌||◌, true}
 use Rattle.std.proofs.Common.{false, cond, Option, Some, None, refl, sym, ap, ap₂, ◌∙◌, subst, arith, eqb-true, eq-eqb}
 use Rattle.std.proofs.Common.{if◌then◌else◌, get_or, slice_get}
-use Rattle.std.specs.List.{AllZip, find, position, position_or_len}
+use Rattle.std.specs.List.{All, AllZip, find, list_any, position, position_or_len}
 use Rattle.std.specs.Option.{option_map, option_map_or}
+use Rattle.std.proofs.lemmas.List.Elements.{recursion_from_All}
 use Rattle.std.proofs.lemmas.List.Folds.{find_at}
 use Rattle.std.proofs.lemmas.Option.{cond_some, none-some, same_Some, get_or_from_slice_get, slice_get_within}
 use Rattle.std.proofs.lemmas.Bool.Decides.{nat_tests}
 use Rattle.ca_base.specs.declared.codes.TheConstants.Hr as hr
+use Rattle.ca_base.specs.declared.ids.Flow.{Flow}
+use Rattle.ca_base.specs.declared.ids.Flow.TheVariants as flow
 use Rattle.ca_base.specs.declared.limits.TheConstants.{MAX_COUNT}
 use Rattle.ca_base.specs.declared.values.TheConstants.{STATE_ACTIVE}
 use Rattle.ca_base.specs.Rows.{first}
@@ -17,16 +20,18 @@ use Rattle.ca_stage.specs.Fates.{next_of, place_of}
 use Rattle.ca_stage.specs.Tally.{Tally}
 use Rattle.device_registry.specs.declared.endpoint.Endpoint.{Endpoint}
 use Rattle.device_registry.specs.Endpoints.{is_endpoint}
-use Rattle.ca_machine.specs.Periods.{period_frames, period_of, period_plan}
-use Rattle.ca_machine.specs.State.{endpoint_at}
+use Rattle.ca_machine.specs.Periods.{is_worn, period_by, period_frames, period_of, period_plan, period_rows}
+use Rattle.ca_machine.specs.State.{State, endpoint_at}
+use Rattle.period_engine.specs.Entries.{streams_of}
 use Rattle.service_book.proofs.Finding.{FoundAt, find_mapped, found_at, none_at}
 use Rattle.service_book.proofs.Rows.{row_holds, row_passes}
 use Rattle.service_board.specs.Board.{playhead_of, state_of}
-use Rattle.service_board.specs.Due.{FindsDue}
-use Rattle.service_board.specs.InOrder.{Seats, is_seat, next_at}
+use Rattle.service_board.specs.Due.{FindsDue, is_capture_flow, is_worn_entry}
+use Rattle.service_board.specs.InOrder.{Belongs, Seats, is_seat, next_at}
 use Rattle.service_board.specs.Lookups.{Says}
 use Rattle.service_board.specs.declared.board.Board.{Board}
 use Rattle.service_board.specs.declared.board.Seat.{Seat}
+use Rattle.service_board.proofs.WornEntries.{all_count, any_worn}
 
 -- ---- the seat of an endpoint
 
@@ -100,6 +105,11 @@ no_endpoint_says b n runs e datas tally =
     ap (λ o. first (period_of (state_of datas tally b) o).rows) (none_at (is_endpoint n) b.book.registry.list e)
     ∙ row_passes b.book.is_shut hr.SERVICE_NOT_RUNNING _ runs refl
 
+-- whatever the endpoint's flow
+pub rows_by : (st : State) (e : Endpoint) (f : Flow) → (period_by st e f).rows ≡ period_rows st e
+rows_by st e flow.Render = refl
+rows_by st e flow.Capture = refl
+
 -- a service that was shut down
 pub shut_period_says : {D E : Type 0} (b : Board D E) (n : ℕ) → b.book.is_shut ≡ true →
     Says b (λ st. (period_plan st n).rows) (Some hr.SERVICE_NOT_RUNNING)
@@ -108,7 +118,17 @@ shut_period_says b n shut datas tally = by (endpoint_at n (state_of datas tally 
     by : (o : Option Endpoint) →
         first (period_of (state_of datas tally b) o).rows ≡ Some hr.SERVICE_NOT_RUNNING
     by None = row_holds b.book.is_shut hr.SERVICE_NOT_RUNNING _ shut
-    by (Some e) = row_holds b.book.is_shut hr.SERVICE_NOT_RUNNING _ shut
+    by (Some e) =
+        ap first (rows_by (state_of datas tally b) e e.flow)
+        ∙ row_holds b.book.is_shut hr.SERVICE_NOT_RUNNING _ shut
+
+-- what was looked at, with the frames as they were computed
+pub worn_of : {D E : Type 0} (b : Board D E) (e : Endpoint) (frames : ℕ) (seen verdict : Bool) →
+    frames ≡ period_frames e →
+    seen ≡ (is_capture_flow e.flow && list_any (is_worn_entry e.no.0 frames) b.entries.items) → seen ≡ verdict →
+    (is_capture_flow e.flow && list_any (is_worn_entry e.no.0 (period_frames e)) b.entries.items) ≡ verdict
+worn_of b e frames seen verdict same is h =
+    ap (λ n. is_capture_flow e.flow && list_any (is_worn_entry e.no.0 n) b.entries.items) (sym same) ∙ sym is ∙ h
 
 -- an endpoint, and its seat, as they are read at a place
 module _ {D E : Type 0} (b : Board D E) (n at : ℕ) (runs : b.book.is_shut ≡ false)
@@ -147,42 +167,77 @@ module _ {D E : Type 0} (b : Board D E) (n at : ℕ) (runs : b.book.is_shut ≡ 
       ∙ next_of_seat b n datas tally
       ∙ ap (λ o. option_map_or (λ (s : Seat). s.next) o 0) its_seat_found
 
-  says_by : (a w : Bool) → (e.state == STATE_ACTIVE) ≡ a →
-      nat_lt MAX_COUNT (its_seat.seat.next + period_frames e) ≡ w →
-      Says b (λ st. (period_plan st n).rows)
-      (if not a then Some hr.DEVICE_INVALIDATED else (if w then Some hr.WORN else None))
-  says_by a w active worn datas tally =
+  -- a stream that the period offers packets to can't count its frames
+  abbrev wears : (ℕ → BufferData) → Bool
+  wears datas = list_any (is_worn e.no.0 (period_frames e)) (streams_of datas b.entries.items)
+
+  says_by : (datas : ℕ → BufferData) (tally : Tally) (a w : Bool) → (e.state == STATE_ACTIVE) ≡ a →
+      (nat_lt MAX_COUNT (its_seat.seat.next + period_frames e) || wears datas) ≡ w →
+      first (period_plan (state_of datas tally b) n).rows
+      ≡ (if not a then Some hr.DEVICE_INVALIDATED else (if w then Some hr.WORN else None))
+  says_by datas tally a w active worn =
       ap (λ o. first (period_of (state_of datas tally b) o).rows) found
+      ∙ ap first (rows_by (state_of datas tally b) e e.flow)
       ∙ row_passes b.book.is_shut hr.SERVICE_NOT_RUNNING _ runs refl
       ∙ ap (λ k. if not (e.state == STATE_ACTIVE) then Some hr.DEVICE_INVALIDATED
-      else (if nat_lt MAX_COUNT (k + period_frames e) then Some hr.WORN else None)) (its_next datas tally)
+      else (if nat_lt MAX_COUNT (k + period_frames e) || wears datas then Some hr.WORN else None))
+      (its_next datas tally)
       ∙ ap₂ (λ c v. if not c then Some hr.DEVICE_INVALIDATED else (if v then Some hr.WORN else None)) active worn
 
   pub inactive_says : (e.state == STATE_ACTIVE) ≡ false → Says b (λ st. (period_plan st n).rows)
       (Some hr.DEVICE_INVALIDATED)
-  inactive_says h = says_by false (nat_lt MAX_COUNT (its_seat.seat.next + period_frames e)) h refl
+  inactive_says h datas tally =
+      says_by datas tally false (nat_lt MAX_COUNT (its_seat.seat.next + period_frames e) || wears datas) h refl
 
-  pub seat_bound : (s : Seat) → s ≡ get_or b.seats.items at s → s.next ≤ MAX_COUNT
-  seat_bound s read_seat =
-      let same : its_seat.seat ≡ s =
-      sym (get_or_from_slice_get b.seats.items at its_seat.seat s its_seat.here) ∙ sym read_seat in
-      subst (λ (t : Seat). t.next ≤ MAX_COUNT) same its_seat.fits.next
+  -- the seat, as it is read at the place
+  module _ (s : Seat) (read_seat : s ≡ get_or b.seats.items at s) where
+    seat_is : its_seat.seat ≡ s
+    seat_is = sym (get_or_from_slice_get b.seats.items at its_seat.seat s its_seat.here) ∙ sym read_seat
 
-  pub worn_says : (s : Seat) → s ≡ get_or b.seats.items at s → (e.state == STATE_ACTIVE) ≡ true →
-      MAX_COUNT < s.next + period_frames e → Says b (λ st. (period_plan st n).rows) (Some hr.WORN)
-  worn_says s read_seat active worn =
-      let same : its_seat.seat ≡ s =
-      sym (get_or_from_slice_get b.seats.items at its_seat.seat s its_seat.here) ∙ sym read_seat in
-      let beyond : nat_lt MAX_COUNT (s.next + period_frames e) ≡ true = grind (arith, nat_tests) in
-      says_by true true active (ap (λ (t : Seat). nat_lt MAX_COUNT (t.next + period_frames e)) same ∙ beyond)
+    pub seat_bound : s.next ≤ MAX_COUNT
+    seat_bound = subst (λ (t : Seat). t.next ≤ MAX_COUNT) seat_is its_seat.fits.next
 
-  pub finds_due : (s : Seat) → s ≡ get_or b.seats.items at s → e.state ≡ STATE_ACTIVE →
-      s.next + period_frames e ≤ MAX_COUNT → FindsDue n b at
-  finds_due s read_seat active room =
-      let same : its_seat.seat ≡ s =
-      sym (get_or_from_slice_get b.seats.items at its_seat.seat s its_seat.here) ∙ sym read_seat in
-      let within : nat_lt MAX_COUNT (s.next + period_frames e) ≡ false = grind (arith, nat_tests) in
-      record {
+    pub worn_says : (e.state == STATE_ACTIVE) ≡ true → MAX_COUNT < s.next + period_frames e →
+        Says b (λ st. (period_plan st n).rows) (Some hr.WORN)
+    worn_says active worn datas tally =
+        let beyond : nat_lt MAX_COUNT (s.next + period_frames e) ≡ true = grind (arith, nat_tests) in
+        says_by datas tally true true active
+        (ap (λ v. v || wears datas)
+        (ap (λ (t : Seat). nat_lt MAX_COUNT (t.next + period_frames e)) seat_is ∙ beyond))
+
+    -- the endpoint's next place has room for the period
+    module _ (belong : All (Belongs b.book b.seats.items) b.entries.items)
+        (room : s.next + period_frames e ≤ MAX_COUNT) where
+      its_room : its_seat.seat.next + period_frames e ≤ MAX_COUNT
+      its_room = subst (λ (t : Seat). t.next + period_frames e ≤ MAX_COUNT) (sym seat_is) room
+
+      within : nat_lt MAX_COUNT (its_seat.seat.next + period_frames e) ≡ false
+      within = let le = its_room in grind (arith, nat_tests)
+
+      next_room : next_at n b.seats.items + period_frames e ≤ MAX_COUNT
+      next_room =
+          subst (λ k. k + period_frames e ≤ MAX_COUNT)
+          (sym (ap (λ o. option_map_or (λ (t : Seat). t.next) o 0) its_seat_found)) its_room
+
+      wears_is : (datas : ℕ → BufferData) →
+          wears datas ≡ (is_capture_flow e.flow && list_any (is_worn_entry e.no.0 (period_frames e)) b.entries.items)
+      wears_is datas =
+          ap (λ k. list_any (is_worn k (period_frames e)) (streams_of datas b.entries.items)) number_is
+          ∙ any_worn b.book b.seats.items n e found (period_frames e) next_room datas b.entries.items
+          (recursion_from_All (Belongs b.book b.seats.items) b.entries.items belong)
+          ∙ ap (λ k. is_capture_flow e.flow && list_any (is_worn_entry k (period_frames e)) b.entries.items)
+          (sym number_is)
+
+      pub worn_stream_says : (e.state == STATE_ACTIVE) ≡ true →
+          (is_capture_flow e.flow && list_any (is_worn_entry e.no.0 (period_frames e)) b.entries.items) ≡ true →
+          Says b (λ st. (period_plan st n).rows) (Some hr.WORN)
+      worn_stream_says active worn datas tally =
+          says_by datas tally true true active (ap₂ (λ v w. v || w) within (wears_is datas ∙ worn))
+
+      pub finds_due : e.state ≡ STATE_ACTIVE →
+          (is_capture_flow e.flow && list_any (is_worn_entry e.no.0 (period_frames e)) b.entries.items) ≡ false →
+          FindsDue n b at
+      finds_due active fresh = record {
         active = record {
           endpoint = e;
           here = here;
@@ -195,8 +250,13 @@ module _ {D E : Type 0} (b : Board D E) (n at : ℕ) (runs : b.book.is_shut ≡ 
         seat_here = its_seat.here;
         seat_found = its_seat_found;
         seats = its_seat.fits;
-        room = subst (λ (t : Seat). t.next + period_frames e ≤ MAX_COUNT) (sym same) room;
-        says =
-            says_by true false (eq-eqb e.state STATE_ACTIVE active)
-            (ap (λ (t : Seat). nat_lt MAX_COUNT (t.next + period_frames e)) same ∙ within);
+        room = its_room;
+        ever =
+            all_count b.book b.seats.items n e found (period_frames e) b.entries.items
+            (recursion_from_All (Belongs b.book b.seats.items) b.entries.items belong)
+            (ap (λ k. is_capture_flow e.flow && list_any (is_worn_entry k (period_frames e)) b.entries.items)
+            (sym number_is) ∙ fresh);
+        says = λ datas tally.
+            says_by datas tally true false (eq-eqb e.state STATE_ACTIVE active)
+            (ap₂ (λ v w. v || w) within (wears_is datas ∙ fresh));
       }

@@ -1,6 +1,6 @@
 -- Another format of an endpoint: what its rows say of a board, and the board with it.
-use Rattle.std.proofs.Common.{◌≡◌, ℕ, ◌*◌, ◌≤◌, ◌==◌, not, List, [], ◌∷◌, map, get_or, Bool, false}
-use Rattle.std.proofs.Common.{Option, Some, None, Ok, Err, refl, sym, ap, ◌∙◌, subst, find, eqb-true, arith}
+use Rattle.std.proofs.Common.{◌≡◌, ℕ, ◌≤◌, ◌==◌, not, List, [], ◌∷◌, map, get_or, Bool, false}
+use Rattle.std.proofs.Common.{Option, Some, None, Ok, Err, refl, sym, ap, ◌∙◌, subst, find, eqb-true}
 use Rattle.std.specs.Global.{Vec}
 use Rattle.std.specs.Vec.{with_item}
 use Rattle.std.proofs.Math.Seq.{map-set_same}
@@ -14,7 +14,7 @@ use Rattle.ca_base.specs.declared.limits.TheConstants.{MAX_COUNT}
 use Rattle.ca_base.specs.Rows.{Row}
 use Rattle.wave_format.specs.declared.format.Format as wave
 use Rattle.wave_format.specs.declared.format.FormatFault.{FormatFault}
-use Rattle.wave_format.specs.Format.{IsValid, format_at, spelled}
+use Rattle.wave_format.specs.Format.{format_at, spelled}
 use Rattle.wave_format.proofs.FormatLaws.{read-valid}
 use Rattle.buffer_ring.specs.declared.step.EndState.{EndState}
 use Rattle.buffer_ring.specs.declared.step.Step.{Step}
@@ -25,12 +25,14 @@ use Rattle.device_registry.specs.Changes.{with_changed}
 use Rattle.device_registry.specs.Endpoints.{EndpointList, is_endpoint, replaced_by}
 use Rattle.ca_machine.specs.State.{State, endpoint_at}
 use Rattle.ca_machine.specs.Plan.Answer.{found as memory_found}
+use Rattle.ca_machine.proofs.DevicesGive.{found_gives_none, passes_unread}
 use Rattle.ca_machine.specs.Devices.{missing_rows, set_format_plan, with_endpoint_format, with_format, with_named}
 use Rattle.ca_machine.specs.Periods.{period_frames}
 use Rattle.ca_machine.specs.Streams.{is_faulty, matches}
 use Rattle.ca_machine.specs.View.{outside}
 use Rattle.period_engine.specs.declared.entry.StreamEntry.{StreamEntry}
-use Rattle.period_engine.specs.declared.sounding.Block.{Block}
+use Rattle.period_engine.specs.declared.block.Block.{Block}
+use Rattle.period_engine.specs.Sounds.{IsBlockFor}
 use Rattle.service_book.proofs.Rows.{row_holds, row_passes}
 use Rattle.service_board.specs.Board.{playhead_of, state_of}
 use Rattle.service_board.specs.Closing.{Disconnects}
@@ -40,7 +42,7 @@ use Rattle.service_board.specs.Lookups.{Says}
 use Rattle.service_board.specs.NamedEndpoints.{FindsNamed}
 use Rattle.service_board.specs.declared.board.Board.{Board}
 use Rattle.service_board.specs.declared.board.Seat.{Seat}
-use Rattle.service_board.proofs.AddDoes.{stays_does}
+use Rattle.service_board.proofs.AddDoes.{seat_made, stays_does}
 use Rattle.service_board.proofs.AddRows.{faulty, read_is}
 use Rattle.service_board.proofs.ChangedBoards.{changed_alike, changed_granted, changed_order, zip_replaced}
 use Rattle.service_board.proofs.Disconnecting.{disconnects_does}
@@ -88,14 +90,11 @@ module _ {D E : Type 0} (b : Board D E) (number : ℕ) (bytes : List ℕ) where
 
 -- ---- the board
 
--- formats that match have the same channels
-matching_channels : (a b : wave.Format) → not (matches a b) ≡ false → b.channels ≡ a.channels
-matching_channels a b h =
-    sym (eqb-true a.channels b.channels
-    (and_parts (a.channels == b.channels) (a.rate == b.rate) (not-false (matches a b) h)).0)
-
-same_within : (samples size : ℕ) → samples ≡ size → size ≤ samples
-same_within samples size e = omega arith
+-- formats that match have the same channels and the same rate
+matching : (a b : wave.Format) → not (matches a b) ≡ false → (b.channels ≡ a.channels) × (b.rate ≡ a.rate)
+matching a b h =
+    let parts = and_parts (a.channels == b.channels) (a.rate == b.rate) (not-false (matches a b) h) in
+    (sym (eqb-true a.channels b.channels parts.0), sym (eqb-true a.rate b.rate parts.1))
 
 module _ {D E : Type 0} (b : Board D E) (number at : ℕ) (bytes : List ℕ) (found : FindsNamed number b at)
     (read : wave.Format) (spells : format_at bytes ≡ Ok read) where
@@ -117,7 +116,7 @@ module _ {D E : Type 0} (b : Board D E) (number at : ℕ) (bytes : List ℕ) (fo
       (loses : Disconnects moves state loses_streams Format (Some number) b.entries entries) (registry : EndpointList)
       (replaces : registry ≡ with_changed number (replaced_by read_endpoint) b.book.registry) (seat : Seat)
       (seat_read : seat ≡ get_or b.seats.items at seat) (block : Block)
-      (size : block.samples ≡ period_frames read_endpoint * read.channels)
+      (size : IsBlockFor (period_frames read_endpoint) read.channels block)
     where
       abbrev new_seat : Seat
       new_seat = record { endpoint = seat.endpoint; next = seat.next; block = block }
@@ -146,7 +145,8 @@ module _ {D E : Type 0} (b : Board D E) (number at : ℕ) (bytes : List ℕ) (fo
           disconnects_does moves state b order loses_streams Format (Some number) entries loses format_board.book
           new_seats faults told (λ st. set_format_plan st number bytes) (memory_found ∷ [])
           (format_says b number bytes at found read spells)
-          (λ out. record { tells = add_none out.told; counts = refl }) (λ datas tally. refl)
+          (λ out. passes_unread out out [] (memory_found ∷ []) found_gives_none (add_none out.told) refl)
+          (λ datas tally. refl)
           (λ datas tally.
           granted_named (state_of datas tally b) (endpoint_at number (state_of datas tally b)) found.endpoint
           (with_endpoint_format (state_of datas tally b) number bytes) _ found.found
@@ -162,21 +162,23 @@ module _ {D E : Type 0} (b : Board D E) (number at : ℕ) (bytes : List ℕ) (fo
       seat_is = sym (get_or_from_slice_get b.seats.items at its_seat.seat seat its_seat.here) ∙ sym seat_read
 
       seat_fits : Seats new_seat (with_format bytes found.endpoint)
-      seat_fits = record {
-        number = ap (λ (t : Seat). t.endpoint.0) (sym seat_is) ∙ its_seat.fits.number;
-        next = subst (λ (t : Seat). t.next ≤ MAX_COUNT) seat_is its_seat.fits.next;
-        block =
-            subst (λ (f : wave.Format).
-            period_frames (record (found.endpoint) { format = f }) * f.channels ≤ block.samples) read_spelled
-            (same_within block.samples (period_frames read_endpoint * read.channels) size);
-        format = subst IsValid read_spelled (read-valid bytes read spells);
-      }
+      seat_fits =
+          subst (λ (f : wave.Format). Seats new_seat (record (found.endpoint) { format = f })) read_spelled
+          (seat_made new_seat read_endpoint (ap (λ (t : Seat). t.endpoint.0) (sym seat_is) ∙ its_seat.fits.number)
+          (subst (λ (t : Seat). t.next ≤ MAX_COUNT) seat_is its_seat.fits.next) size (read-valid bytes read spells))
 
+      -- where the formats match, streams keep their channels and their period
       keeps_channels : (e : Endpoint) → find (is_endpoint number) b.book.registry.list ≡ Some e →
           loses_streams ≡ false → (with_format bytes e).format.channels ≡ e.format.channels
       keeps_channels e there kept =
-          matching_channels found.endpoint.format (spelled bytes) kept
+          (matching found.endpoint.format (spelled bytes) kept).0
           ∙ ap (λ (x : Endpoint). x.format.channels) (same_Some found.endpoint e (sym found.found ∙ there))
+
+      keeps_rate : (e : Endpoint) → find (is_endpoint number) b.book.registry.list ≡ Some e →
+          loses_streams ≡ false → (with_format bytes e).format.rate ≡ e.format.rate
+      keeps_rate e there kept =
+          (matching found.endpoint.format (spelled bytes) kept).1
+          ∙ ap (λ (x : Endpoint). x.format.rate) (same_Some found.endpoint e (sym found.found ∙ there))
 
       next_stays : (n : ℕ) → next_at n new_seats.items ≡ next_at n b.seats.items
       next_stays n =
@@ -187,7 +189,7 @@ module _ {D E : Type 0} (b : Board D E) (number at : ℕ) (bytes : List ℕ) (fo
       pub format_order : InOrder state format_board
       format_order =
           changed_order moves state b order loses_streams Format number entries loses (with_format bytes) registry
-          registry_is new_seats (λ e. refl) keeps_channels next_stays
+          registry_is new_seats (λ e. refl) (λ e. refl) keeps_channels keeps_rate next_stays
           (zip_replaced number 0 at (with_format bytes) b.seats.items b.book.registry.list new_seat found.endpoint
           order.book.endpoints found.here found.number_is seat_fits order.seats)
           order.seat_room

@@ -1,5 +1,5 @@
 -- Another format of an endpoint: the endpoint that is made of the one that was read, and what is done with it.
-use Rattle.std.proofs.Common.{◌≡◌, ℕ, ◌*◌, not, List, [], get_or, Bool, Option, Some, None, Ok, sym, ap, ◌∙◌, subst}
+use Rattle.std.proofs.Common.{◌≡◌, ℕ, not, List, [], get_or, Bool, Option, Some, None, Ok, sym, ap, ◌∙◌, subst}
 use Rattle.std.specs.Global.{Vec}
 use Rattle.std.specs.Vec.{with_item}
 use Rattle.device_io.specs.DeviceLog.{DeviceLog}
@@ -19,7 +19,8 @@ use Rattle.ca_machine.specs.Devices.{set_format_plan}
 use Rattle.ca_machine.specs.Periods.{period_frames}
 use Rattle.ca_machine.specs.Streams.{matches}
 use Rattle.period_engine.specs.declared.entry.StreamEntry.{StreamEntry}
-use Rattle.period_engine.specs.declared.sounding.Block.{Block}
+use Rattle.period_engine.specs.declared.block.Block.{Block}
+use Rattle.period_engine.specs.Sounds.{IsBlockFor}
 use Rattle.service_board.specs.Closing.{Disconnects}
 use Rattle.service_board.specs.Does.{AnyData, Does}
 use Rattle.service_board.specs.InOrder.{InOrder}
@@ -69,10 +70,10 @@ module _ {D E : Type 0} (b : Board D E) (number at : ℕ) (bytes : List ℕ) (li
       ∙ ap (λ n. with_changed n (replaced_by made) b.book.registry) number_is
       ∙ ap (λ e. with_changed number (replaced_by e) b.book.registry) made_is
 
-  size_by : (frames samples : ℕ) → frames ≡ period_frames made → samples ≡ frames * read.channels →
-      samples ≡ period_frames (read_endpoint b number at bytes m.found read m.spells) * read.channels
-  size_by frames samples frames_are size =
-      size ∙ ap (λ n. n * read.channels) (frames_are ∙ ap period_frames made_is)
+  size_by : (frames : ℕ) (block : Block) → frames ≡ period_frames made → IsBlockFor frames read.channels block →
+      IsBlockFor (period_frames (read_endpoint b number at bytes m.found read m.spells)) read.channels block
+  size_by frames block frames_are size =
+      subst (λ n. IsBlockFor n read.channels block) (frames_are ∙ ap period_frames made_is) size
 
   loses_by : (moves : E → List Step → E → Type 0) (state : E → EndState) (entries : Vec (StreamEntry E))
       (matched : Bool) → matched ≡ matches old.format read →
@@ -91,7 +92,7 @@ module _ {D E : Type 0} (b : Board D E) (number at : ℕ) (bytes : List ℕ) (li
       (loses : Disconnects moves state (not matched) Format (Some number) b.entries entries) (registry : EndpointList)
       (now : registry ≡ with_changed made.no.0 (replaced_by made) b.book.registry) (seat : Seat)
       (seat_read : seat ≡ get_or b.seats.items at seat) (frames : ℕ) (frames_are : frames ≡ period_frames made)
-      (block : Block) (size : block.samples ≡ frames * read.channels)
+      (block : Block) (size : IsBlockFor frames read.channels block)
     where
       abbrev made_board : Board D E
       made_board = record b {
@@ -104,11 +105,11 @@ module _ {D E : Type 0} (b : Board D E) (number at : ℕ) (bytes : List ℕ) (li
           Does faults told moves None AnyData b made_board (λ st. set_format_plan st number bytes) hr.S_OK []
       made_does =
           format_does b number at bytes m.found read m.spells moves state order entries
-          (loses_by moves state entries matched matched_is loses) registry (replaces_by registry now) seat seat_read block
-          (size_by frames block.samples frames_are size)
+          (loses_by moves state entries matched matched_is loses) registry (replaces_by registry now) seat seat_read
+          block (size_by frames block frames_are size)
 
       pub made_order : InOrder state made_board
       made_order =
           format_order b number at bytes m.found read m.spells moves state order entries
-          (loses_by moves state entries matched matched_is loses) registry (replaces_by registry now) seat seat_read block
-          (size_by frames block.samples frames_are size)
+          (loses_by moves state entries matched matched_is loses) registry (replaces_by registry now) seat seat_read
+          block (size_by frames block frames_are size)

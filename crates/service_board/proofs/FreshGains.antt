@@ -71,6 +71,8 @@ module _ {E : Type 0} (book : Book) where
         gate = rested.0.fits.gate;
         size = rested.0.fits.size;
         position = rested.0.fits.position;
+        offered = rested.0.fits.offered;
+        ever = rested.0.fits.ever;
         some_channel = rested.0.fits.some_channel;
         few_channels = rested.0.fits.few_channels;
       };
@@ -88,10 +90,19 @@ module _ {E : Type 0} (book : Book) where
         client = h.client;
         live = h.live;
         on = h.on;
-        opens = h.opens;
+        opens = λ unclosed.
+            let on = h.opens unclosed in
+            record {
+              endpoint = on.endpoint;
+              there = on.there;
+              fits = on.fits;
+              lasts = on.lasts;
+              suited = on.suited;
+              behind = on.behind;
+              hears = on.hears;
+            };
         within = regains.within;
         gains = λ fresh. regains.gains h.client h.live;
-        renders = h.renders;
       })
 
   all_belong : (seats : List Seat) (xs ys : List (StreamEntry E)) → AllZip (Regains book) xs ys →

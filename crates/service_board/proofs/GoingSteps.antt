@@ -3,21 +3,29 @@ use Rattle.std.proofs.Common.{◌≡◌, ℕ, ◌==◌, List, [], ◌∷◌, fil
 use Rattle.std.proofs.Common.{sym, ap, ◌∙◌, subst, eqb-true, if◌then◌else◌}
 use Rattle.std.proofs.lemmas.Bool.{false≢true}
 use Rattle.std.specs.List.{AllByRecursion}
+use Rattle.ca_base.specs.declared.ids.Gate.{Gate}
+use Rattle.ca_base.specs.declared.ids.Gate.TheVariants as gate
 use Rattle.buffer_ring.specs.declared.step.Step.{Step}
 use Rattle.ca_machine.specs.declared.state.Client.{Client}
 use Rattle.period_engine.specs.declared.entry.StreamEntry.{StreamEntry}
+use Rattle.period_engine.specs.Agreement.{ArePacked, Layout, layout_of}
 use Rattle.service_book.specs.Leaving.{is_live}
-use Rattle.service_board.specs.Does.{Made, store_at}
-use Rattle.service_board.specs.Leaving.{Goes, is_of_live}
+use Rattle.service_board.specs.Does.{Made, layout_at, store_at}
+use Rattle.service_board.specs.Leaving.{ClosesOnce, Goes, is_of_live}
 
 module _ {E : Type 0} (moves : E → List Step → E → Type 0) (clients : List Client) where
   -- an entry's store goes if no live client has it
   abbrev pub GoesUnlessLive : StreamEntry E → Type 0
   GoesUnlessLive e = is_of_live clients e ≡ false → Goes moves e
 
+  -- that of an open gate takes the step that closes it, and no other takes any
+  abbrev closing_steps : Gate → List Step → List Step
+  closing_steps gate.Open ss = ss
+  closing_steps _ ss = []
+
   abbrev own_steps : (e : StreamEntry E) (live : Bool) → (live ≡ false → Goes moves e) → List Step
   own_steps e true h = []
-  own_steps e false h = (h refl).steps
+  own_steps e false h = closing_steps e.gate (h refl).steps
 
   abbrev pub steps_of : (entries : List (StreamEntry E)) → AllByRecursion GoesUnlessLive entries → ℕ → List Step
   steps_of [] h client = []
@@ -41,6 +49,30 @@ module _ {E : Type 0} (moves : E → List Step → E → Type 0) (clients : List
           none_own e (is_of_live clients e) h.0 (ap (is_live clients) (eqb-true e.client.0 client same) ∙ l)
       by false other rest = rest
 
+  -- no step takes frames
+  closing_packed : (l : Layout) (g : Gate) (ss : List Step) → (g ≡ gate.Open → ClosesOnce ss) →
+      ArePacked l (closing_steps g ss)
+  closing_packed l gate.Open ss h = subst (ArePacked l) (sym (h refl).1) (tt, tt)
+  closing_packed l (gate.Closed reason) ss h = tt
+
+  own_packed : (e : StreamEntry E) (live : Bool) (h : live ≡ false → Goes moves e) →
+      ArePacked (layout_of e) (own_steps e live h)
+  own_packed e true h = tt
+  own_packed e false h = closing_packed (layout_of e) e.gate (h refl).steps (h refl).closes
+
+  pub packed_of : (entries : List (StreamEntry E)) (h : AllByRecursion GoesUnlessLive entries) (client : ℕ) →
+      ArePacked (layout_at client entries) (steps_of entries h client)
+  packed_of [] h client = tt
+  packed_of (e ∷ entries) h client =
+      by (e.client.0 == client) (own_packed e (is_of_live clients e) h.0) (packed_of entries h.1 client)
+    where
+      by : (own : Bool) → ArePacked (layout_of e) (own_steps e (is_of_live clients e) h.0) →
+          ArePacked (layout_at client entries) (steps_of entries h.1 client) →
+          ArePacked (if own then layout_of e else layout_at client entries)
+          (if own then own_steps e (is_of_live clients e) h.0 else steps_of entries h.1 client)
+      by true here rest = here
+      by false here rest = rest
+
   -- the store of another one isn't there any more
   pub store_gone : (entries : List (StreamEntry E)) (client : ℕ) → is_live clients client ≡ false →
       store_at client (filter (is_of_live clients) entries) ≡ None
@@ -60,6 +92,11 @@ module _ {E : Type 0} (moves : E → List Step → E → Type 0) (clients : List
       by false gone own e' rest = rest
 
   module _ (given : Option E) (stays : (a : E) → moves a [] a) where
+    closing_made : (a : E) (g : Gate) (ss : List Step) (last : E) → moves a ss last →
+        (b : E) × moves a (closing_steps g ss) b
+    closing_made a gate.Open ss last made = (last, made)
+    closing_made a (gate.Closed reason) ss last made = (a, stays a)
+
     made_one : (e : StreamEntry E) (old kept : List (StreamEntry E)) (client : ℕ) (steps : List Step) (own : Bool) →
         (e.client.0 == client) ≡ own → (live : Bool) (h : live ≡ false → Goes moves e) →
         (own ≡ true → live ≡ false → store_at client kept ≡ None) →
@@ -70,8 +107,8 @@ module _ {E : Type 0} (moves : E → List Step → E → Type 0) (clients : List
         subst (Made moves given [] (Some e.store))
         (sym (ap (λ v. if v then Some e.store else store_at client kept) same)) (stays e.store)
     made_one e old kept client steps true same false h gone rest =
-        subst (Made moves given (h refl).steps (Some e.store)) (sym (gone refl refl))
-        ((h refl).last, (h refl).made)
+        subst (Made moves given (closing_steps e.gate (h refl).steps) (Some e.store)) (sym (gone refl refl))
+        (closing_made e.store e.gate (h refl).steps (h refl).last (h refl).made)
     made_one e old kept client steps false other true h gone rest =
         subst (Made moves given steps (store_at client old))
         (sym (ap (λ v. if v then Some e.store else store_at client kept) other)) rest

@@ -10,9 +10,10 @@ use Rattle.ca_machine.specs.State.{State}
 use Rattle.ca_machine.specs.Plan.{Plan, AreAnswers, unless_refused, unless_row}
 use Rattle.ca_machine.specs.Plan.Asked.{nothing}
 use Rattle.ca_machine.specs.View.{AnswersBy, Outside, Passes, outside}
+use Rattle.period_engine.specs.Agreement.{ArePacked}
 use Rattle.service_book.specs.declared.book.Book.{Book}
 use Rattle.service_board.specs.Board.{state_of}
-use Rattle.service_board.specs.Does.{Does, Made, after_steps, store_at}
+use Rattle.service_board.specs.Does.{Does, Made, after_steps, layout_at, store_at}
 use Rattle.service_board.specs.declared.board.Board.{Board}
 use Rattle.service_board.proofs.Doing.{not_asked}
 
@@ -46,14 +47,16 @@ pub granted_does : {D E : Type 0} (faults : D → ℕ) (told : D → Option (Lis
     (plan : State → Plan) (result : Hr) (payload : List ℕ) (steps : ℕ → List Step) (after : State → Tally) →
     ((client : ℕ) →
     Made moves given (steps client) (store_at client old.entries.items) (store_at client new.entries.items)) →
+    ((client : ℕ) → ArePacked (layout_at client old.entries.items) (steps client)) →
     new.devices ≡ old.devices →
     ((datas : ℕ → BufferData) (tally : Tally) →
     Grants (plan (state_of datas tally old)) result payload
     (state_of (after_steps steps old.entries.items datas) (after (state_of datas tally old)) new)) →
     Does faults told moves given known old new plan result payload
-granted_does faults told moves given known old new plan result payload steps after made same grants = record {
+granted_does faults told moves given known old new plan result payload steps after made packs same grants = record {
   steps = steps;
   made = made;
+  packs = packs;
   does = λ datas tally agrees knows. record {
     tally = after (state_of datas tally old);
     answers =
@@ -76,7 +79,7 @@ pub book_does : {D E : Type 0} (faults : D → ℕ) (told : D → Option (List D
     Does faults told moves given known b (record b { book = book }) plan result payload
 book_does faults told moves given known stays b book plan result payload grants =
     granted_does faults told moves given known b (record b { book = book }) plan result payload (λ client. [])
-    (λ st. st.tally) (λ client. still (store_at client b.entries.items)) refl grants
+    (λ st. st.tally) (λ client. still (store_at client b.entries.items)) (λ client. tt) refl grants
   where
     still : (store : Option _) → Made moves given [] store store
     still (Some a) = stays a

@@ -142,7 +142,6 @@ module _ {D E : Type 0} (state : E → EndState) (moves : E → List Step → E 
     opens = h.opens;
     within = h.within;
     gains = λ t. absurd (true≢false t);
-    renders = h.renders;
   }
 
   pub order_left : InOrder state new

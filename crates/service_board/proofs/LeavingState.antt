@@ -25,14 +25,14 @@ use Rattle.ca_machine.specs.Clients.{closes, is_used, with_clients}
 use Rattle.ca_machine.proofs.ClosesOfClients.{present_after_closes}
 use Rattle.period_engine.specs.declared.entry.StreamEntry.{StreamEntry}
 use Rattle.period_engine.specs.Entries.{stream_of, stream_with, streams_of}
-use Rattle.period_engine.specs.Agreement.{data_after}
+use Rattle.period_engine.specs.Agreement.{ArePacked, data_after}
 use Rattle.service_book.specs.Leaving.{is_live}
 use Rattle.service_book.specs.declared.book.Book.{Book}
 use Rattle.service_board.specs.Board.{stage_with, state_of}
-use Rattle.service_board.specs.Does.{Made, after_steps, channels_at, store_at}
+use Rattle.service_board.specs.Does.{Made, after_steps, layout_at, store_at}
 use Rattle.service_board.specs.Leaving.{AreClosed, Forgets, Keeps, is_in_use, is_of_live}
 use Rattle.service_board.specs.declared.board.Board.{Board}
-use Rattle.service_board.proofs.GoingSteps.{GoesUnlessLive, made_of, none_of_live, steps_of}
+use Rattle.service_board.proofs.GoingSteps.{GoesUnlessLive, made_of, none_of_live, packed_of, steps_of}
 use Rattle.service_board.proofs.Kept.{any_mapped, apart, kept_alike, kept_mapped}
 
 -- a client that is live
@@ -55,7 +55,7 @@ module _ {E : Type 0} (moves : E → List Step → E → Type 0) (left : List Cl
 
   same_stream : (e : StreamEntry E) → is_of_live left e ≡ true → stream_of datas e ≡ stream_of datas_left e
   same_stream e live =
-      ap (λ ss. stream_with (data_after (channels_at e.client.0 entries) ss (datas e.client.0)) e)
+      ap (λ ss. stream_with (data_after (layout_at e.client.0 entries) ss (datas e.client.0)) e)
       (sym (none_of_live moves left entries goes e.client.0 live))
 
   -- the streams of live clients are left as they were
@@ -167,6 +167,10 @@ module _ {D E : Type 0} (moves : E → List Step → E → Type 0) (b new : Boar
   leaving_made given stays client =
       subst (λ es. Made moves given (leaving_steps client) (store_at client b.entries.items) (store_at client es))
       (sym forgets.streams.left) (made_of moves book.clients.items given stays b.entries.items goes client)
+
+  -- which took no frames
+  pub leaving_packed : (client : ℕ) → ArePacked (layout_at client b.entries.items) (leaving_steps client)
+  leaving_packed client = packed_of moves book.clients.items b.entries.items goes client
 
 -- ---- each open store that is gone was closed
 

@@ -8,6 +8,7 @@ use Rattle.ca_machine.specs.Plan.{AreAnswers, Outcome, if_found, unless_refused,
 use Rattle.ca_machine.specs.Plan.Answer.{found, out_of_memory}
 use Rattle.ca_machine.specs.Plan.Asked.{memory, nothing}
 use Rattle.ca_machine.specs.View.{AnswersBy, Outside, Passes}
+use Rattle.ca_machine.proofs.DevicesGive.{found_gives_none, passes_unread, short_gives_none}
 use Rattle.service_board.proofs.Doing.{add_none}
 
 module _ (st : State) (rows : List (Row Hr)) (outcome : Outcome) (out : Outside) (row : first rows ≡ None) where
@@ -23,7 +24,7 @@ module _ (st : State) (rows : List (Row Hr)) (outcome : Outcome) (out : Outside)
     passes =
         subst (λ v. Passes out (unless_refused st v outcome).output (found ∷ []) out) (sym row)
         (subst (λ ps. Passes out ps (found ∷ []) out) (sym output)
-        (record { tells = add_none out.told; counts = refl }));
+        (passes_unread out out [] (found ∷ []) found_gives_none (add_none out.told) refl));
   }
 
   -- memory ran out
@@ -38,5 +39,5 @@ module _ (st : State) (rows : List (Row Hr)) (outcome : Outcome) (out : Outside)
         after-is = ap (λ v. (unless_refused st v o).after) (sym row);
         passes =
             subst (λ v. Passes out (unless_refused st v o).output (out_of_memory ∷ []) out) (sym row)
-            (record { tells = add_none out.told; counts = refl });
+            (passes_unread out out [] (out_of_memory ∷ []) short_gives_none (add_none out.told) refl);
       }

@@ -99,8 +99,14 @@ module _ {D E : Type 0} (b : Board D E) (number at to : ℕ) (found : FindsNamed
             InOrder state state_board
         state_order lost loses =
             changed_order moves state b order lost Removal number entries loses (with_state to) registry sets.now
-            b.seats (λ e. refl) (λ e found left. refl) (λ n. refl)
+            b.seats (λ e. refl) (λ e. refl) (λ e found left. refl) (λ e found left. refl) (λ n. refl)
             (zip_changed number (with_state to) b.seats.items b.book.registry.list
-            (λ t e fits. record { number = fits.number; next = fits.next; block = fits.block; format = fits.format })
+            (λ t e fits. record {
+              number = fits.number;
+              next = fits.next;
+              block = fits.block;
+              feed = fits.feed;
+              format = fits.format;
+            })
             order.seats)
             order.seat_room

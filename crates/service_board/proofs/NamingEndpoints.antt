@@ -106,8 +106,14 @@ module _ {D E : Type 0} (b : Board D E) (number at : ℕ) (found : FindsNamed nu
         name_order moves stays state order =
             changed_order moves state b order false Removal number b.entries
             (none_lost moves stays state Removal (Some number) b.entries order.rested) (with_name name) registry named
-            b.seats (λ e. refl) (λ e there left. refl) (λ n. refl)
+            b.seats (λ e. refl) (λ e. refl) (λ e there left. refl) (λ e there left. refl) (λ n. refl)
             (zip_changed number (with_name name) b.seats.items b.book.registry.list
-            (λ t e fits. record { number = fits.number; next = fits.next; block = fits.block; format = fits.format })
+            (λ t e fits. record {
+              number = fits.number;
+              next = fits.next;
+              block = fits.block;
+              feed = fits.feed;
+              format = fits.format;
+            })
             order.seats)
             order.seat_room

@@ -8,9 +8,9 @@ use Rattle.buffer_ring.specs.declared.step.Step.{Step}
 use Rattle.ca_stage.specs.Stage.{BufferData, Stream}
 use Rattle.ca_stage.specs.Order.{RisesFrom}
 use Rattle.period_engine.specs.declared.entry.StreamEntry.{StreamEntry}
-use Rattle.period_engine.specs.Agreement.{Agrees, AllAgree}
+use Rattle.period_engine.specs.Agreement.{Agrees, AllAgree, ArePacked, layout_of}
 use Rattle.period_engine.specs.Entries.{stream_of, stream_with, streams_of}
-use Rattle.service_board.specs.Does.{Made, channels_at, store_at}
+use Rattle.service_board.specs.Does.{Made, layout_at, store_at}
 use Rattle.service_board.proofs.Doing.{made_still}
 
 -- an entry of another client
@@ -78,18 +78,26 @@ module _ {E : Type 0} (e : StreamEntry E) where
       ap (λ b. if b then Some x.store else store_at e.client.0 xs) (ne_eqb x.client.0 e.client.0 other)
       ∙ store_found xs at sole
 
-  pub channels_found : (xs : List (StreamEntry E)) (at : ℕ) → IsSole e xs at →
-      channels_at e.client.0 xs ≡ e.channels
-  channels_found _ _ (here xs others) =
-      ap (λ b. if b then e.channels else channels_at e.client.0 xs) (is_itself e.client.0)
-  channels_found _ _ (later x xs at other sole) =
-      ap (λ b. if b then x.channels else channels_at e.client.0 xs) (ne_eqb x.client.0 e.client.0 other)
-      ∙ channels_found xs at sole
+  pub layout_found : (xs : List (StreamEntry E)) (at : ℕ) → IsSole e xs at → layout_at e.client.0 xs ≡ layout_of e
+  layout_found _ _ (here xs others) =
+      ap (λ b. if b then layout_of e else layout_at e.client.0 xs) (is_itself e.client.0)
+  layout_found _ _ (later x xs at other sole) =
+      ap (λ b. if b then layout_of x else layout_at e.client.0 xs) (ne_eqb x.client.0 e.client.0 other)
+      ∙ layout_found xs at sole
 
   pub agrees_found : (steps : ℕ → List Step) (datas : ℕ → BufferData) (xs : List (StreamEntry E)) (at : ℕ) →
-      IsSole e xs at → AllAgree steps datas xs → Agrees e.channels (steps e.client.0) (datas e.client.0)
+      IsSole e xs at → AllAgree steps datas xs → Agrees (layout_of e) (steps e.client.0) (datas e.client.0)
   agrees_found steps datas _ _ (here xs others) agrees = agrees.0
   agrees_found steps datas _ _ (later x xs at other sole) agrees = agrees_found steps datas xs at sole agrees.1
+
+  -- of its steps alone, which take whole packets
+  pub packs_only : (ss : List Step) → ArePacked (layout_of e) ss → (xs : List (StreamEntry E)) (at : ℕ) →
+      IsSole e xs at → (client : ℕ) → ArePacked (layout_at client xs) (only e.client.0 ss client)
+  packs_only ss packs xs at sole client =
+      by_client e.client.0 client (λ b. ArePacked (layout_at client xs) (if b then ss else []))
+      (λ p. subst (λ n. ArePacked (layout_at n xs) ss) p
+      (subst (λ l. ArePacked l ss) (sym (layout_found xs at sole)) packs))
+      (λ other. tt)
 
 -- the entry is changed into one of the same client
 module _ {E : Type 0} (e new : StreamEntry E) (same : new.client.0 ≡ e.client.0) where

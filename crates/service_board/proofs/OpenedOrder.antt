@@ -1,23 +1,28 @@
 -- What an Initialize opens stands in order, and there is room for it.
-use Rattle.std.proofs.Common.{◌≡◌, ℕ, suc, ◌<◌, ◌≤◌, ◌==◌, ◌&&◌, List, [], ◌∷◌, length, Bool, true}
-use Rattle.std.proofs.Common.{false, cond, Some, refl, sym, ap, ◌∙◌, subst, arith, find, eqb-true}
+use Rattle.std.proofs.Common.{◌≡◌, ℕ, suc, ◌<◌, ◌≤◌, ◌==◌, ◌&&◌, not, List, [], ◌∷◌, length, Bool, true}
+use Rattle.std.proofs.Common.{false, cond, if◌then◌else◌, Some, refl, sym, ap, ◌∙◌, subst, arith, find, eqb-true}
 use Rattle.std.specs.List.{All, AllByRecursion, AllZip, insert}
 use Rattle.std.specs.Vec.{vec_capacity}
 use Rattle.std.proofs.lemmas.List.{length-map}
 use Rattle.std.proofs.lemmas.List.Elements.{All-from_recursion, recursion_from_All}
 use Rattle.std.proofs.lemmas.Bool.{true≢false}
 use Rattle.std.proofs.lemmas.Option.{none-some, same_Some}
+use Rattle.ca_base.specs.declared.ids.Flow.{Flow}
+use Rattle.ca_base.specs.declared.ids.Flow.TheVariants as flow
 use Rattle.ca_base.specs.declared.ids.SessionNo.{SessionNo}
-use Rattle.ca_base.specs.declared.limits.TheConstants.{CLIENTS, ENDPOINTS, MAX_CONNECTION_NAME, NOTICES}
+use Rattle.ca_base.specs.declared.ids.StreamKind.TheVariants as kind
+use Rattle.ca_base.specs.declared.limits.TheConstants.{CLIENTS, ENDPOINTS, MAX_CONNECTION_NAME, NOTICES, SHARED_PERIOD}
+use Rattle.wave_format.specs.Format.{frames_of_time}
 use Rattle.volume_stack.specs.Scaling.{unit_gain}
 use Rattle.buffer_ring.specs.declared.step.EndState.{EndState}
 use Rattle.session_manager.specs.declared.session.SessionKey.{SessionKey}
 use Rattle.session_manager.specs.Sessions.{SessionList}
+use Rattle.ca_stage.specs.Stage.{is_capture}
 use Rattle.ca_stage.specs.Order.{RisesFrom, is_among}
 use Rattle.ca_stage.proofs.Lists.{all-map, all_found, all_weaker, chosen, found_passes}
 use Rattle.ca_machine.specs.declared.state.Client.{Client}
 use Rattle.ca_machine.specs.State.{is_client_of, is_connection, live_clients}
-use Rattle.ca_machine.specs.Streams.{is_cross_process}
+use Rattle.ca_machine.specs.Streams.{has_loopback, is_cross_process, kind_opened}
 use Rattle.ca_machine.proofs.LiveClients.{found_is_live}
 use Rattle.period_engine.specs.declared.entry.StreamEntry.{StreamEntry}
 use Rattle.period_engine.specs.Entries.{AreInOrder, IsRested}
@@ -26,7 +31,7 @@ use Rattle.service_book.specs.Openings.{Joins}
 use Rattle.service_book.specs.declared.book.Book.{Book}
 use Rattle.service_book.specs.declared.opening.Opening.{Opening as Asked}
 use Rattle.service_book.specs.declared.opening.OpeningPlan.{OpeningPlan}
-use Rattle.service_board.specs.InOrder.{Belongs, InOrder, Seats}
+use Rattle.service_board.specs.InOrder.{Belongs, InOrder, Seats, suits}
 use Rattle.service_board.specs.Openings.{IsNewStore, Plans, new_entry}
 use Rattle.service_board.specs.declared.board.Board.{Board}
 use Rattle.service_board.specs.declared.board.Seat.{Seat}
@@ -105,7 +110,6 @@ belongs_joined old sessions seats e b = record {
   opens = b.opens;
   within = b.within;
   gains = λ t. absurd (true≢false t);
-  renders = b.renders;
 }
 
 -- the name of a session that a stream joins fits: it is that of an open connection, or one byte
@@ -123,6 +127,15 @@ key_fits x b plan p is =
     (omega arith) is_open.name)
 
 -- ---- the entries
+
+-- the kind that is opened suits the endpoint
+kind_suits : (f : Flow) (flags : ℕ) → suits f (kind_opened f flags) ≡ true
+kind_suits flow.Capture flags = refl
+kind_suits flow.Render flags = by (has_loopback flags)
+  where
+    by : (b : Bool) → not (is_capture (if b then kind.Loopback else kind.Render)) ≡ true
+    by true = refl
+    by false = refl
 
 module _ {D E : Type 0} (state : E → EndState) (x : Asked) (old : Board D E) (plan : OpeningPlan)
     (p : Plans x old plan) (order : InOrder state old) (at : ℕ) (session : SessionNo) (store : E)
@@ -177,12 +190,14 @@ module _ {D E : Type 0} (state : E → EndState) (x : Asked) (old : Board D E) (
 
   -- ---- the board is in order
 
-  new_rests : IsNewStore state plan.buffer store → IsRested state entry
+  new_rests : IsNewStore state plan store → IsRested state entry
   new_rests is = record {
     fits = record {
       gate = ap (λ (s : EndState). s.gate) is;
       size = ap (λ (s : EndState). s.cap) is;
       position = omega arith;
+      offered = omega arith;
+      ever = omega arith;
       some_channel = p.format.valid.some_channel;
       few_channels = p.format.valid.few_channels;
     };
@@ -195,12 +210,19 @@ module _ {D E : Type 0} (state : E → EndState) (x : Asked) (old : Board D E) (
     live =
         found_live x.conn.0 x.client.0 0 old.book.clients.items p.named order.book.clients p.found p.client_is;
     on = p.on;
-    opens = λ unclosed.
-        record { endpoint = p.endpoint; there = p.there; fits = p.format.channels; behind = omega arith };
+    opens = λ unclosed. record {
+      endpoint = p.endpoint;
+      there = p.there;
+      fits = p.format.channels;
+      lasts = ap (λ rate. frames_of_time rate SHARED_PERIOD) p.format.rate;
+      suited =
+          subst (λ k. suits p.endpoint.flow k ≡ true) (sym p.kind) (kind_suits p.endpoint.flow x.flags);
+      behind = omega arith;
+      hears = λ is. omega arith;
+    };
     within = All-from_recursion (λ gain. gain ≤ unit_gain) entry.gains
         (omega arith, (omega arith, (omega arith, (omega arith, tt))));
     gains = λ t. absurd (true≢false t);
-    renders = refl;
   }
 
   all_belong : (sessions : SessionList) →
@@ -213,7 +235,7 @@ module _ {D E : Type 0} (state : E → EndState) (x : Asked) (old : Board D E) (
       (belongs_joined old.book sessions old.seats.items) old.entries.items
       (recursion_from_All (Belongs old.book old.seats.items) old.entries.items order.belong)) (new_belongs sessions))
 
-  pub opened_order : (new : Board D E) → IsNewStore state plan.buffer store → new.seats ≡ old.seats →
+  pub opened_order : (new : Board D E) → IsNewStore state plan store → new.seats ≡ old.seats →
       new.drafts ≡ old.drafts → Joins x plan old.book session new.book →
       new.entries.items ≡ insert old.entries.items at entry → vec_capacity old.entries ≤ vec_capacity new.entries →
       InOrder state new

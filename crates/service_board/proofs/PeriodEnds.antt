@@ -9,6 +9,7 @@ use Rattle.std.proofs.lemmas.List.{map-set, with_items_is}
 use Rattle.std.proofs.Math.Seq.{map-set_same}
 use Rattle.device_io.specs.DeviceLog.{DeviceLog}
 use Rattle.ca_base.specs.declared.codes.TheConstants.Hr as hr
+use Rattle.ca_base.specs.declared.ids.Flow.TheVariants as flow
 use Rattle.ca_base.specs.declared.limits.TheConstants.{MAX_COUNT, SHARED_PERIOD}
 use Rattle.ca_base.specs.declared.values.TheConstants.{STATE_NOTPRESENT}
 use Rattle.wave_format.specs.Format.{IsValid, frames_of_time}
@@ -26,21 +27,22 @@ use Rattle.device_registry.specs.Changes.{with_changed}
 use Rattle.ca_machine.specs.Periods.{mixing_of, period_frames, period_plan, with_failed}
 use Rattle.step_notices.specs.Notes.{Notes}
 use Rattle.period_engine.specs.declared.entry.StreamEntry.{StreamEntry}
-use Rattle.period_engine.specs.declared.sounding.Block.{Block}
+use Rattle.period_engine.specs.declared.block.Block.{Block}
 use Rattle.period_engine.specs.Entries.{IsRested}
+use Rattle.period_engine.specs.Sounds.{HasFeedRoom, IsSameSize}
 use Rattle.service_book.specs.BookState.{book_state}
 use Rattle.service_board.specs.Board.{playhead_of}
 use Rattle.service_board.specs.Does.{AnyData, Does}
-use Rattle.service_board.specs.Due.{FindsDue}
+use Rattle.service_board.specs.Due.{FindsDue, HasFlow}
 use Rattle.service_board.specs.InOrder.{InOrder, Seats}
 use Rattle.service_board.specs.Plays.{Plays}
 use Rattle.service_board.specs.declared.board.Board.{Board}
 use Rattle.service_board.specs.declared.board.Seat.{Seat}
-use Rattle.service_board.proofs.ChangedEndpoints.{book_changed, keeps_format, zip_changed}
+use Rattle.service_board.proofs.ChangedEndpoints.{book_changed, zip_changed}
 use Rattle.service_board.proofs.PeriodDoes.{get_mapped, period_does, seat_numbers}
 use Rattle.service_board.proofs.PeriodNeeds.{channels_read, end_gains}
-use Rattle.service_board.proofs.PeriodNeeds.{frames_read, seat_read}
-use Rattle.service_board.proofs.PeriodOrder.{period_order, zip_set_seat}
+use Rattle.service_board.proofs.PeriodNeeds.{frames_read, same_room, seat_read}
+use Rattle.service_board.proofs.PeriodOrder.{keeps_place, period_order, zip_set_seat}
 
 module _ {D E : Type 0} (faults : D → ℕ) (told : D → Option (List DeviceLog)) (moves : E → List Step → E → Type 0)
     (state : E → EndState) (b : Board D E) (order : InOrder state b) (number at : ℕ) (due : FindsDue number b at)
@@ -55,16 +57,39 @@ module _ {D E : Type 0} (faults : D → ℕ) (told : D → Option (List DeviceLo
       pub endpoint : e ≡ get_or b.book.registry.list at e
       pub frames_are : frames ≡ period_frames e
       pub seat : s ≡ get_or b.seats.items at s
-      pub block_is : block ≡ s.block
+      pub block_is : IsSameSize s.block block
 
     module _ (xs ws : List (StreamEntry E)) (e : Endpoint) (frames : ℕ) (s : Seat) (block : Block)
         (read : Read xs ws e frames s block)
       where
-        frames_here : frames ≡ period_frames here
+        pub frames_here : frames ≡ period_frames here
         frames_here = frames_read state b order number at due e read.endpoint frames read.frames_are
 
-        channels_here : e.format.channels ≡ here.format.channels
+        pub channels_here : e.format.channels ≡ here.format.channels
         channels_here = channels_read state b order number at due e read.endpoint frames read.frames_are
+
+        pub entries_are : (with_items b.entries ws).items ≡ ws
+        entries_are = with_items_is b.entries ws (read.size ∙ ap length read.old ∙ sym b.entries.ok.0)
+
+        pub seat_is : s ≡ due.seat
+        seat_is = seat_read state b order number at due s read.seat
+
+        pub seat_fits : (x : Endpoint) (next : ℕ) → x.no ≡ here.no → x.format ≡ here.format → next ≤ MAX_COUNT →
+            Seats (record { endpoint = s.endpoint; next = next; block = block }) x
+        seat_fits x next endpoint format le = record {
+          number = ap (λ (t : Seat). t.endpoint.0) seat_is ∙ due.seats.number ∙ ap (λ n. n.0) (sym endpoint);
+          next = le;
+          block =
+              subst (λ f. frames_of_time f.rate SHARED_PERIOD * f.channels ≤ block.samples) (sym format)
+              (subst (λ k. period_frames here * here.format.channels ≤ k)
+              (sym (read.block_is.samples ∙ ap (λ (t : Seat). t.block.samples) seat_is)) due.seats.block);
+          feed =
+              subst (λ f. HasFeedRoom f.channels (frames_of_time f.rate SHARED_PERIOD) block) (sym format)
+              (same_room here.format.channels (period_frames here) s.block block read.block_is
+              (subst (λ (t : Seat). HasFeedRoom here.format.channels (period_frames here) t.block) (sym seat_is)
+              due.seats.feed));
+          format = subst IsValid (sym format) due.seats.format;
+        }
 
     module _ (devices : D) (xs ws : List (StreamEntry E)) (e : Endpoint) (frames : ℕ) (s : Seat) (block : Block)
         (whole : Bool)
@@ -73,15 +98,13 @@ module _ {D E : Type 0} (faults : D → ℕ) (told : D → Option (List DeviceLo
         (faults devices) (told devices))
         (rested : All (IsRested state) ws)
       where
-        entries_are : (with_items b.entries ws).items ≡ ws
-        entries_are = with_items_is b.entries ws (read.size ∙ ap length read.old ∙ sym b.entries.ok.0)
-
         plays_here : Plays moves here.no.0 (period_frames here) (end_gains here.format.channels) whole
             b.entries.items
             (with_items b.entries ws).items (faults b.devices) (told b.devices) (faults devices) (told devices)
         plays_here =
             subst (λ ys. Plays moves here.no.0 (period_frames here) (end_gains here.format.channels) whole
-            b.entries.items ys (faults b.devices) (told b.devices) (faults devices) (told devices)) (sym entries_are)
+            b.entries.items ys (faults b.devices) (told b.devices) (faults devices) (told devices))
+            (sym (entries_are xs ws e frames s block read))
             (subst (λ zs. Plays moves here.no.0 (period_frames here) (end_gains here.format.channels) whole zs ws
             (faults b.devices) (told b.devices) (faults devices) (told devices)) read.old
             (subst (λ n. Plays moves here.no.0 (period_frames here) (end_gains n) whole xs ws (faults b.devices)
@@ -94,22 +117,7 @@ module _ {D E : Type 0} (faults : D → ℕ) (told : D → Option (List DeviceLo
             (faults devices) (told devices)) (sym due.active.number_is) plays))))
 
         rested_here : All (IsRested state) (with_items b.entries ws).items
-        rested_here = subst (All (IsRested state)) (sym entries_are) rested
-
-        seat_is : s ≡ due.seat
-        seat_is = seat_read state b order number at due s read.seat
-
-        seat_fits : (x : Endpoint) (next : ℕ) → x.no ≡ here.no → x.format ≡ here.format → next ≤ MAX_COUNT →
-            Seats (record { endpoint = s.endpoint; next = next; block = block }) x
-        seat_fits x next endpoint format le = record {
-          number = ap (λ (t : Seat). t.endpoint.0) seat_is ∙ due.seats.number ∙ ap (λ n. n.0) (sym endpoint);
-          next = le;
-          block =
-              subst (λ f. frames_of_time f.rate SHARED_PERIOD * f.channels ≤ block.samples) (sym format)
-              (subst (λ (k : Block). period_frames here * here.format.channels ≤ k.samples)
-              (sym (read.block_is ∙ ap (λ (t : Seat). t.block) seat_is)) due.seats.block);
-          format = subst IsValid (sym format) due.seats.format;
-        }
+        rested_here = subst (All (IsRested state)) (sym (entries_are xs ws e frames s block read)) rested
 
         distinct : AreDistinct (numbers_of (map playhead_of b.seats.items))
         distinct =
@@ -139,7 +147,7 @@ module _ {D E : Type 0} (faults : D → ℕ) (told : D → Option (List DeviceLo
         whole_heads : map playhead_of whole_board.seats.items
             ≡ map (playhead_after (finished (mixing_of empty_state here) true)) (map playhead_of b.seats.items)
         whole_heads =
-            let same = seat_is devices xs ws e frames s block true read plays rested in
+            let same = seat_is xs ws e frames s block read in
             map-set playhead_of b.seats.items at
             (record { endpoint = s.endpoint; next = s.next + frames; block = block })
             ∙ ap (slice_set (map playhead_of b.seats.items) at)
@@ -149,11 +157,12 @@ module _ {D E : Type 0} (faults : D → ℕ) (told : D → Option (List DeviceLo
             (distinct devices xs ws e frames s block true read plays rested)
             (get_mapped playhead_of b.seats.items at due.seat due.seat_here) due.seats.number)
 
-        pub whole_does : b.book.levels_changed ≡ false →
+        pub whole_does : HasFlow flow.Render b.book at → b.book.levels_changed ≡ false →
             Does faults told moves None AnyData b whole_board (λ st. period_plan st number) hr.S_OK
             (to_le_bytes w32 frames ++ 0 ∷ [])
-        whole_does fresh =
-            period_does faults told moves state b whole_board order number at due true plays_whole fresh whole_heads
+        whole_does renders fresh =
+            period_does faults told moves state b whole_board order number at due true plays_whole
+            (renders here due.active.here) fresh whole_heads
             (λ stage tally. refl) (to_le_bytes w32 frames ++ 0 ∷ [])
             (ap (λ n. to_le_bytes w32 n ++ 0 ∷ []) (frames_here xs ws e frames s block read))
 
@@ -162,13 +171,13 @@ module _ {D E : Type 0} (faults : D → ℕ) (told : D → Option (List DeviceLo
             let room = due.room in
             let frames_are = frames_here xs ws e frames s block read in
             let next =
-            ap (λ (t : Seat). t.next) (seat_is devices xs ws e frames s block true read plays rested) in
+            ap (λ (t : Seat). t.next) (seat_is xs ws e frames s block read) in
             period_order faults told moves state b whole_board order number at due true plays_whole whole_heads
             (rested_here devices xs ws e frames s block true read plays rested) refl refl refl
-            (λ n e found. record { endpoint = e; found = found; format = refl })
+            (λ n e found. record { endpoint = e; found = found; flow = refl; format = refl })
             (zip_set_seat b.seats.items b.book.registry.list at
             (record { endpoint = s.endpoint; next = s.next + frames; block = block }) here
-            (seat_fits devices xs ws e frames s block true read plays rested here (s.next + frames) refl refl
+            (seat_fits xs ws e frames s block read here (s.next + frames) refl refl
             (omega arith))
             due.active.here order.seats)
             order.book order.room order.seat_room order.draft_room
@@ -209,11 +218,12 @@ module _ {D E : Type 0} (faults : D → ℕ) (told : D → Option (List DeviceLo
         failed_last : failed_board.book.registry.last ≡ b.book.registry.last
         failed_last = ap (λ (r : EndpointList). r.last) is
 
-        pub failed_does : b.book.levels_changed ≡ false →
+        pub failed_does : HasFlow flow.Render b.book at → b.book.levels_changed ≡ false →
             Does faults told moves None AnyData b failed_board (λ st. period_plan st number) hr.S_OK
             (to_le_bytes w32 0 ++ 1 ∷ [])
-        failed_does fresh =
-            period_does faults told moves state b failed_board order number at due false plays_failed fresh failed_heads
+        failed_does renders fresh =
+            period_does faults told moves state b failed_board order number at due false plays_failed
+            (renders here due.active.here) fresh failed_heads
             (λ stage tally.
             ap₂ (λ es last. record (book_state b.book stage tally) { endpoints = es; last_endpoint = last })
             failed_endpoints failed_last)
@@ -222,20 +232,26 @@ module _ {D E : Type 0} (faults : D → ℕ) (told : D → Option (List DeviceLo
         same_seat : Seats (record { endpoint = s.endpoint; next = s.next; block = block }) here
         same_seat =
             let next =
-            ap (λ (t : Seat). t.next) (seat_is devices xs ws e frames s block false read plays rested) in
+            ap (λ (t : Seat). t.next) (seat_is xs ws e frames s block read) in
             let most = due.seats.next in
-            seat_fits devices xs ws e frames s block false read plays rested here s.next refl refl (omega arith)
+            seat_fits xs ws e frames s block read here s.next refl refl (omega arith)
 
         pub failed_order : InOrder state failed_board
         failed_order =
             period_order faults told moves state b failed_board order number at due false plays_failed failed_heads
             (rested_here devices xs ws e frames s block false read plays rested) refl refl refl
-            (keeps_format number (with_state STATE_NOTPRESENT) (λ e. refl) (λ e. refl) b.book.registry.list
+            (keeps_place number (with_state STATE_NOTPRESENT) (λ e. refl) (λ e. refl) (λ e. refl) b.book.registry.list
             failed_board.book.registry.list (ap (λ (r : EndpointList). r.list) is))
             (subst (λ (r : EndpointList). AllZip Seats failed_board.seats.items r.list) (sym is)
             (zip_changed number (with_state STATE_NOTPRESENT) failed_board.seats.items b.book.registry.list
             (λ t e fits.
-            record { number = fits.number; next = fits.next; block = fits.block; format = fits.format })
+            record {
+              number = fits.number;
+              next = fits.next;
+              block = fits.block;
+              feed = fits.feed;
+              format = fits.format;
+            })
             (zip_set_seat b.seats.items b.book.registry.list at
             (record { endpoint = s.endpoint; next = s.next; block = block }) here same_seat due.active.here
             order.seats)))

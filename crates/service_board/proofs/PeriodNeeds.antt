@@ -1,30 +1,34 @@
 -- What a period needs of a board in order: of its entries, of the endpoint's gains, and of the seat.
-use Rattle.std.proofs.Common.{◌≡◌, ℕ, ◌+◌, ◌*◌, ◌<◌, ◌≤◌, List, [], ◌∷◌, length, take, Some, None, sym}
-use Rattle.std.proofs.Common.{ap, ◌∙◌, subst, arith, get_or}
-use Rattle.std.specs.List.{All, find}
+use Rattle.std.proofs.Common.{◌≡◌, ℕ, ◌+◌, ◌*◌, ◌<◌, ◌≤◌, List, [], ◌∷◌, length, take, true, None, sym, ap, ◌∙◌}
+use Rattle.std.proofs.Common.{subst, arith, get_or}
+use Rattle.std.specs.List.{All}
 use Rattle.std.specs.Option.{option_map_or}
 use Rattle.std.proofs.lemmas.List.{length-take}
 use Rattle.std.proofs.lemmas.List.Elements.{All-from_recursion, All-take}
-use Rattle.std.proofs.lemmas.Option.{get_or_from_slice_get, same_Some, slice_get_within}
+use Rattle.std.proofs.lemmas.Bool.Decides.{nat_tests}
+use Rattle.std.proofs.lemmas.Option.{get_or_from_slice_get, slice_get_within}
 use Rattle.ca_base.specs.declared.ids.Gate.TheVariants as gate
-use Rattle.ca_base.specs.declared.limits.TheConstants.{MAX_COUNT}
+use Rattle.ca_base.specs.declared.limits.TheConstants.{MAX_COUNT, SHARED_PERIOD}
 use Rattle.ca_base.specs.declared.values.TheConstants.{STATE_NOTPRESENT}
 use Rattle.ca_base.specs.Rows.{first}
+use Rattle.wave_format.specs.Format.{frames_of_time, is_listed}
+use Rattle.ca_stage.specs.Stage.{is_capture, is_loopback}
 use Rattle.volume_stack.specs.Scaling.{unit_gain}
 use Rattle.buffer_ring.specs.declared.step.EndState.{EndState}
 use Rattle.device_registry.specs.declared.endpoint.Endpoint.{Endpoint}
-use Rattle.device_registry.specs.Endpoints.{endpoint_at, is_endpoint}
+use Rattle.device_registry.specs.Endpoints.{endpoint_at}
 use Rattle.device_registry.specs.Rows.{state_rows}
 use Rattle.service_board.proofs.Playing.{plays_here}
 use Rattle.ca_machine.specs.Periods.{period_frames}
 use Rattle.period_engine.specs.declared.entry.StreamEntry.{StreamEntry}
-use Rattle.period_engine.specs.Entries.{HasRoom}
-use Rattle.period_engine.specs.Sounds.{AreEnds}
+use Rattle.period_engine.specs.Entries.{HasRoom, IsFeedable, is_heard, is_recorded}
+use Rattle.period_engine.specs.Sounds.{AreEnds, BlockState, HasFeedRoom, IsSameSize}
 use Rattle.service_board.specs.Due.{FindsDue}
 use Rattle.service_board.specs.InOrder.{Belongs, InOrder, next_at}
 use Rattle.service_board.specs.Plays.{IsPlayable}
 use Rattle.service_board.specs.declared.board.Board.{Board}
 use Rattle.service_board.specs.declared.board.Seat.{Seat}
+use Rattle.service_board.proofs.WornEntries.{heard_behind, is_here, on_endpoint}
 
 -- the gains that change nothing, of so many channels
 abbrev pub units : List ℕ
@@ -50,6 +54,30 @@ ends_are channels some few =
       few = omega arith;
       within = All-take (λ gain. gain ≤ unit_gain) channels units units_within;
     }
+
+-- scratch as large as other scratch has as much room
+pub same_room : (channels frames : ℕ) (a b : BlockState) → IsSameSize a b → HasFeedRoom channels frames a →
+    HasFeedRoom channels frames b
+same_room channels frames a b same h = record {
+  some = h.some;
+  few = h.few;
+  words = subst (λ n. frames ≤ n) (sym same.frames) h.words;
+  bytes = subst (λ n. frames * channels * 2 ≤ n) (sym same.bytes) h.bytes;
+}
+
+pub same_size : (a b c : BlockState) → IsSameSize a b → IsSameSize b c → IsSameSize a c
+same_size a b c h k = record {
+  samples = k.samples ∙ h.samples;
+  frames = k.frames ∙ h.frames;
+  bytes = k.bytes ∙ h.bytes;
+}
+
+-- a rate that is listed has a frame in each period
+rate_some : (rate : ℕ) → is_listed rate ≡ true → 1 ≤ rate
+rate_some rate h = grind (arith, nat_tests)
+
+frames_of_listed : (rate : ℕ) → is_listed rate ≡ true → 1 ≤ frames_of_time rate SHARED_PERIOD
+frames_of_listed rate h = let some = rate_some rate h in omega arith
 
 module _ {D E : Type 0} (state : E → EndState) (b : Board D E) (order : InOrder state b) (number at : ℕ)
     (due : FindsDue number b at) where
@@ -82,15 +110,44 @@ module _ {D E : Type 0} (state : E → EndState) (b : Board D E) (order : InOrde
       let room = due.room in
       omega arith
 
+  -- the channels and the period of an open entry are those of its endpoint
   entry_fits : (e : StreamEntry E) → Belongs b.book b.seats.items e → e.endpoint.0 ≡ number → e.gate ≡ gate.Open →
       e.channels ≡ its_endpoint.format.channels
   entry_fits e belongs here unclosed =
       let on = belongs.opens unclosed in
-      let there : find (is_endpoint number) b.book.registry.list ≡ Some on.endpoint =
-      ap (λ n. find (is_endpoint n) b.book.registry.list) (sym here) ∙ on.there in
       on.fits
       ∙ ap (λ (x : Endpoint). x.format.channels)
-      (same_Some on.endpoint its_endpoint (sym there ∙ due.active.found))
+      (on_endpoint b.book b.seats.items number its_endpoint due.active.found e here on)
+
+  entry_lasts : (e : StreamEntry E) → Belongs b.book b.seats.items e → e.endpoint.0 ≡ number → e.gate ≡ gate.Open →
+      e.period ≡ period_frames its_endpoint
+  entry_lasts e belongs here unclosed =
+      let on = belongs.opens unclosed in
+      on.lasts ∙ ap period_frames (on_endpoint b.book b.seats.items number its_endpoint due.active.found e here on)
+
+  entry_hears : (e : StreamEntry E) → Belongs b.book b.seats.items e → is_heard number e ≡ true →
+      IsFeedable its_endpoint.format.channels (period_frames its_endpoint) e
+  entry_hears e belongs hears =
+      let at = is_here number is_loopback e hears in
+      let behind = heard_behind b.book b.seats.items number its_endpoint due.active.found e belongs hears in
+      let next = its_next in
+      let room = due.room in
+      record {
+        channels_are = entry_fits e belongs at.here at.unclosed;
+        period = entry_lasts e belongs at.here at.unclosed;
+        ever = omega arith;
+      }
+
+  entry_records : (e : StreamEntry E) → Belongs b.book b.seats.items e →
+      (is_recorded number e ≡ true → e.ever + period_frames its_endpoint ≤ MAX_COUNT) → is_recorded number e ≡ true →
+      IsFeedable its_endpoint.format.channels (period_frames its_endpoint) e
+  entry_records e belongs counts records =
+      let at = is_here number is_capture e records in
+      record {
+        channels_are = entry_fits e belongs at.here at.unclosed;
+        period = entry_lasts e belongs at.here at.unclosed;
+        ever = counts records;
+      }
 
   -- the endpoint and the frames of its period, as they are read
   module _ (e : Endpoint) (read : e ≡ get_or b.book.registry.list at e) (frames : ℕ)
@@ -112,6 +169,21 @@ module _ {D E : Type 0} (state : E → EndState) (b : Board D E) (order : InOrde
     its_length : length (end_gains e.format.channels) ≡ its_endpoint.format.channels
     its_length = ends_length e.format.channels few_channels ∙ channels_read
 
+    -- those who hear the endpoint may be offered a packet
+    pub entries_feed : All (λ x. is_heard number x ≡ true → IsFeedable (length (end_gains e.format.channels)) frames x)
+        b.entries.items
+    entries_feed k d lt hears =
+        subst (λ n. IsFeedable (length (end_gains e.format.channels)) n (get_or b.entries.items k d)) (sym frames_read)
+        (subst (λ n. IsFeedable n (period_frames its_endpoint) (get_or b.entries.items k d)) (sym its_length)
+        (entry_hears (get_or b.entries.items k d) (order.belong k d lt) hears))
+
+    -- and so may those who record it
+    pub entries_record : All (λ x. is_recorded number x ≡ true → IsFeedable e.format.channels frames x) b.entries.items
+    entries_record k d lt records =
+        subst (λ n. IsFeedable e.format.channels n (get_or b.entries.items k d)) (sym frames_read)
+        (subst (λ n. IsFeedable n (period_frames its_endpoint) (get_or b.entries.items k d)) (sym channels_read)
+        (entry_records (get_or b.entries.items k d) (order.belong k d lt) (due.ever k d lt) records))
+
     pub entries_playable : All (IsPlayable state number frames (length (end_gains e.format.channels))) b.entries.items
     entries_playable k d lt =
         let belongs = order.belong k d lt in
@@ -121,6 +193,7 @@ module _ {D E : Type 0} (state : E → EndState) (b : Board D E) (order : InOrde
               subst (λ n. HasRoom number n (get_or b.entries.items k d)) (sym frames_read)
               (entry_room (get_or b.entries.items k d) belongs);
           fits = λ here unclosed. entry_fits (get_or b.entries.items k d) belongs here unclosed ∙ sym its_length;
+          hears = entries_feed k d lt;
           gains = belongs.within;
         }
 
@@ -130,6 +203,27 @@ module _ {D E : Type 0} (state : E → EndState) (b : Board D E) (order : InOrde
         subst (λ (t : Seat). frames * length (end_gains e.format.channels) ≤ t.block.samples) (sym (seat_read s seat))
         (subst (λ n. n * length (end_gains e.format.channels) ≤ due.seat.block.samples) (sym frames_read)
         (subst (λ n. period_frames its_endpoint * n ≤ due.seat.block.samples) (sym its_length) due.seats.block))
+
+    -- a packet of the period fits in the seat's scratch, whatever a period left there
+    pub feed_fits : (s : Seat) → s ≡ get_or b.seats.items at s → (block : BlockState) → IsSameSize s.block block →
+        HasFeedRoom (length (end_gains e.format.channels)) frames block
+    feed_fits s seat block same =
+        let at : HasFeedRoom (length (end_gains e.format.channels)) frames s.block =
+        subst (λ (t : Seat). HasFeedRoom (length (end_gains e.format.channels)) frames t.block) (sym (seat_read s seat))
+        (subst (λ n. HasFeedRoom (length (end_gains e.format.channels)) n due.seat.block) (sym frames_read)
+        (subst (λ n. HasFeedRoom n (period_frames its_endpoint) due.seat.block) (sym its_length) due.seats.feed)) in
+        same_room (length (end_gains e.format.channels)) frames s.block block same at
+
+    pub record_fits : (s : Seat) → s ≡ get_or b.seats.items at s → HasFeedRoom e.format.channels frames s.block
+    record_fits s seat =
+        subst (λ (t : Seat). HasFeedRoom e.format.channels frames t.block) (sym (seat_read s seat))
+        (subst (λ n. HasFeedRoom e.format.channels n due.seat.block) (sym frames_read)
+        (subst (λ n. HasFeedRoom n (period_frames its_endpoint) due.seat.block) (sym channels_read) due.seats.feed))
+
+    -- a period has a frame
+    pub some_frame : 1 ≤ frames
+    some_frame =
+        subst (λ n. 1 ≤ n) (sym frames_read) (frames_of_listed its_endpoint.format.rate due.seats.format.listed_rate)
 
     pub next_fits : (s : Seat) → s ≡ get_or b.seats.items at s → s.next + frames ≤ MAX_COUNT
     next_fits s seat = omega (arith, ap (λ (t : Seat). t.next) (seat_read s seat), frames_read, due.room)

@@ -6,7 +6,7 @@ use Rattle.device_io.specs.DeviceLog.{DeviceLog}
 use Rattle.ca_base.specs.declared.codes.Hr.{Hr}
 use Rattle.buffer_ring.specs.declared.step.Step.{Step}
 use Rattle.ca_stage.specs.Stage.{BufferData, Stream, no_data}
-use Rattle.ca_stage.specs.Moves.{is_playing}
+use Rattle.ca_stage.specs.Periods.{is_playing}
 use Rattle.ca_stage.specs.Tally.{Tally}
 use Rattle.ca_stage.proofs.Lists.{chosen}
 use Rattle.ca_machine.specs.Notices.{noted}
@@ -62,14 +62,32 @@ module _ {E : Type 0} (moves : E → List Step → E → Type 0) where
   noted_taken steps (y ∷ ys) [] h = absurd h
 
   -- after the Sound the same is noted as before the period
-  pub noted_sounded : {D : Type 0} (b : Board D E) (number frames : ℕ) (ends : List ℕ) (whole : Bool)
+  pub noted_sounded : {D : Type 0} (b : Board D E) (number frames : ℕ) (ends bytes : List ℕ) (whole : Bool)
       (xs zs : List (StreamEntry E)) (faults faults' : ℕ) (told told' : Option (List DeviceLog)) →
-      xs ≡ b.entries.items → PicksAndSounds moves number frames ends whole xs zs faults told faults' told' →
+      xs ≡ b.entries.items → PicksAndSounds moves number frames ends bytes whole xs zs faults told faults' told' →
       (datas : ℕ → BufferData) (tally : Tally) → noted_with b.book zs ≡ noted (state_of datas tally b)
-  noted_sounded b number frames ends whole xs zs faults faults' told told' read sounded datas tally =
+  noted_sounded b number frames ends bytes whole xs zs faults faults' told told' read sounded datas tally =
       ap (λ streams. record (noted_with b.book zs) { streams = streams })
       (noted_taken sounded.sounds.steps sounded.mid zs sounded.sounds.made
       ∙ noted_picked number frames xs sounded.mid sounded.picks)
+      ∙ ap (noted_with b.book) read
+      ∙ noted_board datas tally b
+
+  noted_left : (xs ys : List (StreamEntry E)) → AllZip (Turned moves (λ s. s)) xs ys →
+      map noted_entry ys ≡ map noted_entry xs
+  noted_left [] [] h = refl
+  noted_left (x ∷ xs) (y ∷ ys) h =
+      ap₂ (λ e es. e ∷ es) (noted_alike x y h.0.same.client h.0.same.session h.0.running h.0.gate)
+      (noted_left xs ys h.1)
+  noted_left [] (y ∷ ys) h = absurd h
+  noted_left (x ∷ xs) [] h = absurd h
+
+  -- and so it is after a read of a device that failed
+  pub noted_read : {D : Type 0} (b : Board D E) (xs ys : List (StreamEntry E)) → xs ≡ b.entries.items →
+      AllZip (Turned moves (λ s. s)) xs ys → (datas : ℕ → BufferData) (tally : Tally) →
+      noted_with b.book ys ≡ noted (state_of datas tally b)
+  noted_read b xs ys read left datas tally =
+      ap (λ streams. record (noted_with b.book ys) { streams = streams }) (noted_left xs ys left)
       ∙ ap (noted_with b.book) read
       ∙ noted_board datas tally b
 

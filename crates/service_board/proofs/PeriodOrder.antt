@@ -9,20 +9,22 @@ use Rattle.std.proofs.lemmas.List.Elements.{All-from_recursion, recursion_from_A
 use Rattle.std.proofs.lemmas.Option.{none-some, same_Some}
 use Rattle.device_io.specs.DeviceLog.{DeviceLog}
 use Rattle.ca_base.specs.declared.ids.SessionNo.{SessionNo}
-use Rattle.ca_base.specs.declared.limits.TheConstants.{CLIENTS, ENDPOINTS, NOTICES}
+use Rattle.ca_base.specs.declared.ids.Gate.TheVariants as gate
+use Rattle.ca_base.specs.declared.limits.TheConstants.{CLIENTS, ENDPOINTS, NOTICES, SHARED_PERIOD}
+use Rattle.wave_format.specs.Format.{frames_of_time}
 use Rattle.volume_stack.specs.Scaling.{unit_gain}
 use Rattle.buffer_ring.specs.declared.step.EndState.{EndState}
 use Rattle.buffer_ring.specs.declared.step.Step.{Step}
-use Rattle.ca_stage.specs.Stage.{Playhead, Stream}
+use Rattle.ca_stage.specs.Stage.{Frame, Playhead, Stream, is_loopback}
 use Rattle.ca_stage.specs.Moves.{Mixing, finished, playhead_after}
 use Rattle.ca_stage.specs.Fates.{place_of}
 use Rattle.ca_stage.specs.Order.{RisesFrom}
-use Rattle.ca_stage.proofs.Lists.{find_map, found_passes}
+use Rattle.ca_stage.proofs.Lists.{chosen, find_map, found_passes}
 use Rattle.session_manager.specs.declared.session.Session.{Session}
 use Rattle.session_manager.specs.Sessions.{session_at}
 use Rattle.ca_machine.specs.declared.state.Client.{Client}
 use Rattle.device_registry.specs.declared.endpoint.Endpoint.{Endpoint}
-use Rattle.device_registry.specs.Endpoints.{is_endpoint}
+use Rattle.device_registry.specs.Endpoints.{changed, is_endpoint}
 use Rattle.ca_machine.specs.Periods.{period_frames}
 use Rattle.period_engine.specs.declared.entry.StreamEntry.{StreamEntry}
 use Rattle.period_engine.specs.Entries.{IsRested}
@@ -32,15 +34,41 @@ use Rattle.service_book.specs.declared.book.Book.{Book}
 use Rattle.service_book.proofs.Finding.{find_mapped}
 use Rattle.service_board.specs.Board.{playhead_of}
 use Rattle.service_board.specs.Due.{FindsDue}
-use Rattle.service_board.specs.InOrder.{Belongs, InOrder, IsOn, Seats, is_seat, next_at}
+use Rattle.service_board.specs.InOrder.{Belongs, InOrder, IsOn, Seats, is_seat, next_at, suits}
 use Rattle.service_board.specs.Plays.{AllGo, GoesBy, Plays, StaysNear, plays_on}
 use Rattle.service_board.specs.declared.board.Board.{Board}
 use Rattle.service_board.specs.declared.board.Seat.{Seat}
 use Rattle.service_board.proofs.ByClient.{clients_stay}
-use Rattle.service_board.proofs.ChangedEndpoints.{KeepsFormat}
+use Rattle.service_board.proofs.ChangedEndpoints.{found_changed}
 use Rattle.service_board.proofs.DuePeriods.{next_by_heads}
-use Rattle.service_board.proofs.PeriodDoes.{any_mixing, heads_by}
+use Rattle.service_board.proofs.PeriodDoes.{any_mixing, heads_by, heard}
 use Rattle.service_board.proofs.PeriodNeeds.{end_gains}
+
+-- ---- endpoints
+
+-- an endpoint that was found is found, with its flow and its format
+pub record KeepsPlace (old new : List Endpoint) (n : ℕ) (e : Endpoint) : Type 0 where
+  pub endpoint : Endpoint
+  pub found : find (is_endpoint n) new ≡ Some endpoint
+  pub flow : endpoint.flow ≡ e.flow
+  pub format : endpoint.format ≡ e.format
+
+abbrev one : ℕ → (Endpoint → Endpoint) → Endpoint → Endpoint
+one number f e = if is_endpoint number e then f e else e
+
+pub keeps_place : (number : ℕ) (f : Endpoint → Endpoint) → ((e : Endpoint) → (f e).no ≡ e.no) →
+    ((e : Endpoint) → (f e).flow ≡ e.flow) → ((e : Endpoint) → (f e).format ≡ e.format) →
+    (endpoints new : List Endpoint) → new ≡ changed number f endpoints → (n : ℕ) (e : Endpoint) →
+    find (is_endpoint n) endpoints ≡ Some e → KeepsPlace endpoints new n e
+keeps_place number f same flow format endpoints new is n e found = record {
+  endpoint = one number f e;
+  found =
+      ap (find (is_endpoint n)) is
+      ∙ found_changed number f same n endpoints
+      ∙ ap (option_map (one number f)) found;
+  flow = chosen (λ (y : Endpoint). y.flow ≡ e.flow) (is_endpoint number e) (f e) e (flow e) refl;
+  format = chosen (λ (y : Endpoint). y.format ≡ e.format) (is_endpoint number e) (f e) e (format e) refl;
+}
 
 -- ---- next places
 
@@ -105,30 +133,59 @@ zip_set_seat (x ∷ seats) [] at s e fits here h = absurd h
 
 -- ---- entries
 
+-- what a period may add to the counts of an entry that have to stay behind the next place of its endpoint
+pub record StaysBehind {E : Type 0} (number frames : ℕ) (whole : Bool) (a b : StreamEntry E) : Type 0 where
+  pub position : b.position ≤ a.position + (if whole && a.endpoint.0 == number then frames else 0)
+  pub heard : is_loopback a.kind ≡ true → b.ever ≤ a.ever + (if whole && a.endpoint.0 == number then frames else 0)
+  pub opens : b.gate ≡ gate.Open → a.gate ≡ gate.Open
+
+all_behind : {E : Type 0} (number frames : ℕ) (whole : Bool) (xs ys : List (StreamEntry E)) →
+    AllZip (StaysNear number frames whole) xs ys → AllZip (StaysBehind number frames whole) xs ys
+all_behind number frames whole [] [] h = tt
+all_behind number frames whole (x ∷ xs) (y ∷ ys) h = (
+  record { position = h.0.position; heard = λ kind. h.0.ever; opens = h.0.opens },
+  all_behind number frames whole xs ys h.1,
+)
+all_behind number frames whole [] (y ∷ ys) h = absurd h
+all_behind number frames whole (x ∷ xs) [] h = absurd h
+
 module _ {E : Type 0} (moves : E → List Step → E → Type 0) (f : Stream → Stream) (number frames : ℕ) (whole : Bool)
     (book book' : Book) (seats seats' : List Seat) (clients : book'.clients.items ≡ book.clients.items)
     (sessions : book'.sessions ≡ book.sessions) (changed : book'.levels_changed ≡ book.levels_changed)
     (keeps : (n : ℕ) (e : Endpoint) → find (is_endpoint n) book.registry.list ≡ Some e →
-    KeepsFormat book.registry.list book'.registry.list n e)
+    KeepsPlace book.registry.list book'.registry.list n e)
     (next : (n : ℕ) → next_at n seats + (if whole && n == number then frames else 0) ≤ next_at n seats')
   where
-    still_on : (n m channels channels' p q : ℕ) → m ≡ n → channels' ≡ channels →
-        q ≤ p + (if whole && n == number then frames else 0) → IsOn n channels p book.registry.list seats →
-        IsOn m channels' q book'.registry.list seats'
-    still_on n m channels channels' p q same fits near on =
-        let kept = keeps n on.endpoint on.there in
+    -- what was not beyond the next place of an entry's endpoint isn't after the period
+    still_behind : (n m p q : ℕ) → m ≡ n → q ≤ p + (if whole && n == number then frames else 0) → p ≤ next_at n seats →
+        q ≤ next_at m seats'
+    still_behind n m p q same near behind =
         let rises = next n in
-        let behind = on.behind in
         let within : q ≤ next_at n seats' = omega arith in
+        subst (λ k. q ≤ next_at k seats') (sym same) within
+
+    still_on : (steps : List Step) (a b : StreamEntry E) → GoesBy moves f steps a b →
+        StaysBehind number frames whole a b → IsOn a book.registry.list seats → IsOn b book'.registry.list seats'
+    still_on steps a b goes near on =
+        let kept = keeps a.endpoint.0 on.endpoint on.there in
+        let same : b.endpoint.0 ≡ a.endpoint.0 = ap (λ e. e.0) goes.same.endpoint in
         record {
           endpoint = kept.endpoint;
           there = ap (λ k. find (is_endpoint k) book'.registry.list) same ∙ kept.found;
-          fits = fits ∙ on.fits ∙ ap (λ format. format.channels) (sym kept.format);
-          behind = subst (λ k. q ≤ next_at k seats') (sym same) within;
+          fits = goes.same.channels ∙ on.fits ∙ ap (λ format. format.channels) (sym kept.format);
+          lasts =
+              goes.same.period
+              ∙ on.lasts
+              ∙ ap (λ format. frames_of_time format.rate SHARED_PERIOD) (sym kept.format);
+          suited = ap₂ suits kept.flow goes.same.kind ∙ on.suited;
+          behind = still_behind a.endpoint.0 b.endpoint.0 a.position b.position same near.position on.behind;
+          hears = λ kind.
+              let before = ap is_loopback (sym goes.same.kind) ∙ kind in
+              still_behind a.endpoint.0 b.endpoint.0 a.ever b.ever same (near.heard before) (on.hears before);
         }
 
     one_belongs : (steps : List Step) (a b : StreamEntry E) → GoesBy moves f steps a b →
-        StaysNear number frames whole a b → Belongs book seats a → Belongs book' seats' b
+        StaysBehind number frames whole a b → Belongs book seats a → Belongs book' seats' b
     one_belongs steps a b goes near h =
         let client : b.client.0 ≡ a.client.0 = ap (λ c. c.0) goes.same.client in
         let endpoint : b.endpoint.0 ≡ a.endpoint.0 = ap (λ e. e.0) goes.same.endpoint in
@@ -139,20 +196,17 @@ module _ {E : Type 0} (moves : E → List Step → E → Type 0) (f : Stream →
               ∙ ap (find (λ (c : Client). c.client.0 == a.client.0)) clients
               ∙ h.live;
           on = h.on ∙ sym endpoint;
-          opens = λ unclosed.
-              still_on a.endpoint.0 b.endpoint.0 a.channels b.channels a.position b.position endpoint goes.same.channels
-              near.position (h.opens (near.opens unclosed));
+          opens = λ unclosed. still_on steps a b goes near (h.opens (near.opens unclosed));
           within = subst (All (λ gain. gain ≤ unit_gain)) (sym goes.same.gains) h.within;
           gains = λ fresh.
               goes.same.gains
               ∙ h.gains (sym changed ∙ fresh)
               ∙ ap₂ (λ (s : SessionNo) (list : List Session). gains_by h.client.levels (session_at s.0 list))
               (sym goes.same.session) (ap (λ s. s.list) (sym sessions));
-          renders = goes.same.kind ∙ h.renders;
         }
 
     pub all_belong : (steps : ℕ → List Step) (xs ys : List (StreamEntry E)) → AllGo moves f steps xs ys →
-        AllZip (StaysNear number frames whole) xs ys → AllByRecursion (Belongs book seats) xs →
+        AllZip (StaysBehind number frames whole) xs ys → AllByRecursion (Belongs book seats) xs →
         AllByRecursion (Belongs book' seats') ys
     all_belong steps [] [] h near belong = tt
     all_belong steps (x ∷ xs) (y ∷ ys) h near belong =
@@ -162,6 +216,37 @@ module _ {E : Type 0} (moves : E → List Step → E → Type 0) (f : Stream →
 
 -- ---- the board
 
+-- after entries went on, and no count went beyond its endpoint's next place
+module _ {D E : Type 0} (moves : E → List Step → E → Type 0) (state : E → EndState) (b new : Board D E)
+    (order : InOrder state b) (f : Stream → Stream) (steps : ℕ → List Step) (number frames : ℕ) (whole : Bool)
+    (went : AllGo moves f steps b.entries.items new.entries.items)
+    (places : AllZip (StaysBehind number frames whole) b.entries.items new.entries.items)
+    (next : (n : ℕ) → next_at n b.seats.items + (if whole && n == number then frames else 0)
+    ≤ next_at n new.seats.items) where
+  pub order_after : All (IsRested state) new.entries.items → new.book.clients.items ≡ b.book.clients.items →
+      new.book.sessions ≡ b.book.sessions → new.book.levels_changed ≡ b.book.levels_changed →
+      ((n : ℕ) (e : Endpoint) → find (is_endpoint n) b.book.registry.list ≡ Some e →
+      KeepsPlace b.book.registry.list new.book.registry.list n e) →
+      AllZip Seats new.seats.items new.book.registry.list → IsBook new.book →
+      CLIENTS ≤ vec_capacity new.entries → ENDPOINTS ≤ vec_capacity new.seats → NOTICES ≤ vec_capacity new.drafts →
+      InOrder state new
+  order_after rested clients sessions changed keeps seats book room seat_room draft_room = record {
+    order =
+        subst (RisesFrom 0) (sym (clients_stay moves f steps b.entries.items new.entries.items went)) order.order;
+    rested = rested;
+    belong =
+        All-from_recursion (Belongs new.book new.seats.items) new.entries.items
+        (all_belong moves f number frames whole b.book new.book b.seats.items new.seats.items clients sessions changed
+        keeps next steps b.entries.items new.entries.items went places
+        (recursion_from_All (Belongs b.book b.seats.items) b.entries.items order.belong));
+    seats = seats;
+    book = book;
+    room = room;
+    seat_room = seat_room;
+    draft_room = draft_room;
+  }
+
+-- a period of an endpoint that plays
 module _ {D E : Type 0} (faults : D → ℕ) (told : D → Option (List DeviceLog)) (moves : E → List Step → E → Type 0)
     (state : E → EndState) (b new : Board D E) (order : InOrder state b) (number at : ℕ) (due : FindsDue number b at)
     (whole : Bool)
@@ -177,6 +262,9 @@ module _ {D E : Type 0} (faults : D → ℕ) (told : D → Option (List DeviceLo
 
     abbrev frames_of : ℕ
     frames_of = period_frames due.active.endpoint
+
+    abbrev heard_of : List Frame
+    heard_of = heard faults told moves state b new order number at due whole plays
 
     abbrev mixing : Mixing
     mixing = any_mixing faults told moves state b new order number at due whole plays
@@ -202,26 +290,21 @@ module _ {D E : Type 0} (faults : D → ℕ) (told : D → Option (List DeviceLo
     pub period_order : All (IsRested state) new.entries.items → new.book.clients.items ≡ b.book.clients.items →
         new.book.sessions ≡ b.book.sessions → new.book.levels_changed ≡ b.book.levels_changed →
         ((n : ℕ) (e : Endpoint) → find (is_endpoint n) b.book.registry.list ≡ Some e →
-        KeepsFormat b.book.registry.list new.book.registry.list n e) →
+        KeepsPlace b.book.registry.list new.book.registry.list n e) →
         AllZip Seats new.seats.items new.book.registry.list → IsBook new.book →
         CLIENTS ≤ vec_capacity new.entries → ENDPOINTS ≤ vec_capacity new.seats → NOTICES ≤ vec_capacity new.drafts →
         InOrder state new
-    period_order rested clients sessions changed keeps seats book room seat_room draft_room = record {
-      order =
-          subst (RisesFrom 0)
-          (sym (clients_stay moves (plays_on number_of frames_of whole) plays.steps b.entries.items new.entries.items
-          plays.went))
-          order.order;
-      rested = rested;
-      belong =
-          All-from_recursion (Belongs new.book new.seats.items) new.entries.items
-          (all_belong moves (plays_on number_of frames_of whole) number_of frames_of whole b.book new.book b.seats.items
-          new.seats.items clients sessions changed keeps next_at_rises plays.steps b.entries.items new.entries.items
-          plays.went plays.places
-          (recursion_from_All (Belongs b.book b.seats.items) b.entries.items order.belong));
-      seats = seats;
-      book = book;
-      room = room;
-      seat_room = seat_room;
-      draft_room = draft_room;
-    }
+    period_order =
+        order_after moves state b new order (plays_on number_of frames_of heard_of whole) plays.steps number_of
+        frames_of whole plays.went
+        (all_behind number_of frames_of whole b.entries.items new.entries.items plays.places) next_at_rises
+
+-- a period of an endpoint that captures brings no endpoint on
+module _ {D E : Type 0} (b new : Board D E) (heads : map playhead_of new.seats.items ≡ map playhead_of b.seats.items)
+  where
+    pub next_stays : (number frames n : ℕ) →
+        next_at n b.seats.items + (if false && n == number then frames else 0) ≤ next_at n new.seats.items
+    next_stays number frames n =
+        let same : next_at n new.seats.items ≡ next_at n b.seats.items =
+        sym (next_by_heads n new.seats.items) ∙ ap (next_in n) heads ∙ next_by_heads n b.seats.items in
+        omega arith

@@ -1,16 +1,19 @@
 -- What the rows of an Initialize say on a board, one after another.
-use Rattle.std.proofs.Common.{◌≡◌, ℕ, ◌||◌, not, List, [], ◌∷◌}
+use Rattle.std.proofs.Common.{◌≡◌, ℕ, ◌*◌, ◌≤◌, ◌||◌, ◌&&◌, not, List, [], ◌∷◌, arith}
 use Rattle.std.proofs.Common.{◌++◌, length, Bool, true, false, Option, Some, None}
 use Rattle.std.proofs.Common.{refl, sym, ap, ◌∙◌, if◌then◌else◌, is_some, get_or}
 use Rattle.std.proofs.Common.{◌<◌}
 use Rattle.std.specs.Option.{option_map_or}
 use Rattle.std.specs.List.{find, list_any, position}
+use Rattle.std.proofs.lemmas.Bool.Decides.{nat_tests}
 use Rattle.std.proofs.lemmas.Option.{get_or_from_slice_get, none-some}
 use Rattle.device_io.specs.DeviceLog.{DeviceLog}
 use Rattle.ca_base.specs.declared.codes.Hr.{Hr}
 use Rattle.ca_base.specs.declared.codes.TheConstants.Hr as hr
 use Rattle.ca_base.specs.declared.ids.EndpointNo.{EndpointNo}
+use Rattle.ca_base.specs.declared.limits.TheConstants.{MAX_STORE_WORDS, SHARED_PERIOD}
 use Rattle.ca_base.specs.Rows.{Row, first}
+use Rattle.wave_format.specs.Format.{frames_of_time, is_listed}
 use Rattle.session_manager.specs.declared.session.SessionKey.{SessionKey}
 use Rattle.session_manager.specs.Rows.{join_rows}
 use Rattle.ca_stage.specs.Stage.{BufferData}
@@ -22,9 +25,11 @@ use Rattle.device_registry.specs.declared.endpoint.Endpoint.{Endpoint}
 use Rattle.ca_machine.specs.State.{State, client_of, is_connection}
 use Rattle.device_registry.specs.Endpoints.{is_endpoint}
 use Rattle.ca_machine.specs.SharedRows.{connection_rows, control_rows, endpoint_of, shut_rows}
-use Rattle.ca_machine.specs.Streams.{endpoint_rows, has_no_match, initialize_rows, is_cross_process, is_faulty, is_malformed, joining_rows, later_rows, session_key}
+use Rattle.ca_machine.specs.Streams.{endpoint_rows, has_loopback, has_no_match, initialize_rows, is_capturing}
+use Rattle.ca_machine.specs.Streams.{is_cross_process, is_faulty, is_malformed, joining_rows, later_rows, session_key}
+use Rattle.ca_machine.specs.Streams.{shared_buffer}
 use Rattle.buffer_ring.specs.declared.step.Step.{Step}
-use Rattle.service_book.specs.Openings.{argument_rows, arguments, format_rows, key_by, opening_plan}
+use Rattle.service_book.specs.Openings.{argument_rows, arguments, flow_rows, format_rows, key_by, opening_plan}
 use Rattle.service_book.specs.declared.opening.Opening.{Opening as Asked}
 use Rattle.service_book.proofs.Finding.{found_at, none_at}
 use Rattle.service_board.specs.Board.{state_of}
@@ -57,6 +62,13 @@ any_none test (y ∷ xs) e = by (test y) e (any_none test xs)
 
 abbrev pub stream_row : Asked → State → List (Row Hr)
 stream_row x st = (is_some (stream_at x.client.0 st.stage), hr.ALREADY_INITIALIZED) ∷ []
+
+abbrev pub own_flow_rows : Asked → State → List (Row Hr)
+own_flow_rows x st = (
+  has_loopback x.flags && is_capturing (endpoint_of st (client_of x.conn.0 x.client.0 st)),
+  hr.WRONG_ENDPOINT_TYPE,
+)
+    ∷ []
 
 abbrev pub own_format_rows : Asked → State → List (Row Hr)
 own_format_rows x st =
@@ -151,6 +163,16 @@ module _ {D E : Type 0} (b : Board D E) (x : Asked) where
         ∙ found.active.found
         ∙ ap (λ y. Some y) same
 
+    abbrev flow_verdict : Option Endpoint → Option Hr
+    flow_verdict o = first ((has_loopback x.flags && is_capturing o, hr.WRONG_ENDPOINT_TYPE) ∷ [])
+
+    pub flow_says : (e : Endpoint) → found.active.endpoint ≡ e → (verdict : Option Hr) →
+        first (flow_rows e.flow (arguments x)) ≡ verdict → Says b (own_flow_rows x) verdict
+    flow_says e same verdict says datas tally =
+        ap (λ o. flow_verdict (endpoint_of (state_of datas tally b) o)) found.found
+        ∙ ap flow_verdict (found.active.found ∙ ap (λ y. Some y) same)
+        ∙ says
+
     abbrev format_verdict : Option Endpoint → Option Hr
     format_verdict o = first (
         (is_malformed x.format.now, hr.E_INVALIDARG)
@@ -196,10 +218,16 @@ module _ (x : Asked) where
   five st = four st ++ argument_rows (arguments x)
 
   abbrev pub six : Rows
-  six st = five st ++ own_format_rows x st
+  six st = five st ++ own_flow_rows x st
+
+  abbrev pub seven : Rows
+  seven st = six st ++ own_format_rows x st
+
+  abbrev behind_six : Rows
+  behind_six st = own_format_rows x st ++ own_session_rows x st
 
   abbrev behind_five : Rows
-  behind_five st = own_format_rows x st ++ own_session_rows x st
+  behind_five st = own_flow_rows x st ++ behind_six st
 
   abbrev behind_four : Rows
   behind_four st = argument_rows (arguments x) ++ behind_five st
@@ -230,13 +258,16 @@ module _ {D E : Type 0} (b : Board D E) (x : Asked) where
   past_arguments says passes =
       says_later b (four x) (λ st. argument_rows (arguments x)) None passes (λ datas tally. says)
 
-  pub past_format : Says b (own_format_rows x) None → Says b (five x) None → Says b (six x) None
-  past_format says passes = says_later b (five x) (own_format_rows x) None passes says
+  pub past_flow : Says b (own_flow_rows x) None → Says b (five x) None → Says b (six x) None
+  past_flow says passes = says_later b (five x) (own_flow_rows x) None passes says
 
-  pub past_session : Says b (own_session_rows x) None → Says b (six x) None → Says b (all_rows x) None
-  past_session says passes = says_later b (six x) (own_session_rows x) None passes says
+  pub past_format : Says b (own_format_rows x) None → Says b (six x) None → Says b (seven x) None
+  past_format says passes = says_later b (six x) (own_format_rows x) None passes says
 
-  -- past the rows before those of the format
+  pub past_session : Says b (own_session_rows x) None → Says b (seven x) None → Says b (all_rows x) None
+  past_session says passes = says_later b (seven x) (own_session_rows x) None passes says
+
+  -- past the rows before that of the flow
   pub past_five : (from at : ℕ) → Some from ≡ position (is_connection x.conn.0) b.book.connections.items →
       Says b shut_rows None → first (later_rows (arguments x)) ≡ None → FindsEndpoint x.conn.0 x.client.0 b at →
       find (is_entry_of x.client.0) b.entries.items ≡ None → first (argument_rows (arguments x)) ≡ None →
@@ -268,14 +299,19 @@ module _ {D E : Type 0} (b : Board D E) (x : Asked) where
   at_arguments code says passes = says_front b (five x) (behind_five x) code
       (says_later b (four x) (λ st. argument_rows (arguments x)) (Some code) passes (λ datas tally. says))
 
-  pub at_format : (code : Hr) → Says b (own_format_rows x) (Some code) → Says b (five x) None →
+  pub at_flow : (code : Hr) → Says b (own_flow_rows x) (Some code) → Says b (five x) None →
       Says b (all_rows x) (Some code)
-  at_format code says passes = says_front b (six x) (own_session_rows x) code
-      (says_later b (five x) (own_format_rows x) (Some code) passes says)
+  at_flow code says passes = says_front b (six x) (behind_six x) code
+      (says_later b (five x) (own_flow_rows x) (Some code) passes says)
 
-  pub at_session : (code : Hr) → Says b (own_session_rows x) (Some code) → Says b (six x) None →
+  pub at_format : (code : Hr) → Says b (own_format_rows x) (Some code) → Says b (six x) None →
       Says b (all_rows x) (Some code)
-  at_session code says passes = says_later b (six x) (own_session_rows x) (Some code) passes says
+  at_format code says passes = says_front b (seven x) (own_session_rows x) code
+      (says_later b (six x) (own_format_rows x) (Some code) passes says)
+
+  pub at_session : (code : Hr) → Says b (own_session_rows x) (Some code) → Says b (seven x) None →
+      Says b (all_rows x) (Some code)
+  at_session code says passes = says_later b (seven x) (own_session_rows x) (Some code) passes says
 
 -- a refused one does nothing
 pub opening_refused : {D E : Type 0} (faults : D → ℕ) (told : D → Option (List DeviceLog))
@@ -283,3 +319,21 @@ pub opening_refused : {D E : Type 0} (faults : D → ℕ) (told : D → Option (
     Says b (all_rows x) (Some code) → Does faults told moves None AnyData b b (opening_plan x) code []
 opening_refused faults told moves stays b x code says =
     refused_does faults told moves None AnyData stays b (opening_plan x) code says
+
+-- ---- the sizes of a buffer: it has some periods, each of some frames, and with a word more for each it fits a store
+
+listed_within : (rate : ℕ) → is_listed rate ≡ true → (8000 ≤ rate) × (rate ≤ 96000)
+listed_within rate h = (grind (arith, nat_tests), grind (arith, nat_tests))
+
+pub period_some : (rate : ℕ) → is_listed rate ≡ true → 1 ≤ frames_of_time rate SHARED_PERIOD
+period_some rate h =
+    let least = (listed_within rate h).0 in
+    omega arith
+
+pub buffer_whole : (rate duration : ℕ) → frames_of_time rate SHARED_PERIOD ≤ shared_buffer rate duration
+buffer_whole rate duration = omega arith
+
+pub buffer_most : (rate duration : ℕ) → is_listed rate ≡ true → 2 * shared_buffer rate duration ≤ MAX_STORE_WORDS
+buffer_most rate duration h =
+    let most = (listed_within rate h).1 in
+    omega arith

@@ -1,19 +1,21 @@
 -- A period over entries: what its parts need, and what they come to.
 use Rattle.std.proofs.Common.{◌≡◌, ℕ, ◌+◌, ◌<◌, ◌≤◌, ◌==◌, ◌&&◌, List, [], ◌∷◌, ◌++◌, length, map, Bool, true}
-use Rattle.std.proofs.Common.{false, Option, Some, refl, sym, ap, ◌∙◌, subst, arith, eqb-true, if◌then◌else◌}
+use Rattle.std.proofs.Common.{false, Option, Some, refl, sym, ap, ◌∙◌, subst, arith, if◌then◌else◌}
 use Rattle.std.specs.Prelude.{slice_index}
 use Rattle.std.specs.List.{All, AllByRecursion, AllZip}
-use Rattle.std.proofs.lemmas.Bool.{and_parts, false≢true}
+use Rattle.std.proofs.lemmas.Bool.{and_parts}
 use Rattle.std.proofs.lemmas.List.Elements.{All-nil, All-cons, All-head, All-tail}
 use Rattle.device_io.specs.DeviceLog.{DeviceLog}
+use Rattle.wave_format.specs.Frame.{frames_from}
+use Rattle.wave_format.proofs.BlockLaws.{length-frames_from}
 use Rattle.volume_stack.specs.Scaling.{unit_gain}
 use Rattle.buffer_ring.specs.declared.step.EndState.{EndState}
 use Rattle.buffer_ring.specs.declared.step.Step.{Step}
-use Rattle.ca_base.specs.declared.ids.Gate.{Gate}
 use Rattle.ca_base.specs.declared.ids.Gate.TheVariants as gate
 use Rattle.ca_base.specs.declared.ids.Reason.TheVariants.{Removal}
-use Rattle.ca_stage.specs.Stage.{Stream, BufferData, is_open_gate, no_data}
-use Rattle.ca_stage.specs.Moves.{Mixing, closed, is_open_on, is_playing, moved}
+use Rattle.ca_stage.specs.Stage.{Frame, Stream, BufferData, is_render, no_data}
+use Rattle.ca_stage.specs.Moves.{Mixing, closed, fed, moved}
+use Rattle.ca_stage.specs.Periods.{fed_if, is_hearing, is_open_on, is_playing}
 use Rattle.ca_stage.specs.Mix.{sound_bytes}
 use Rattle.ca_stage.specs.Order.{RisesFrom}
 use Rattle.ca_stage.proofs.Lists.{chosen, chosen_by}
@@ -29,17 +31,12 @@ use Rattle.service_board.proofs.ByClient.{AreAfter, agree_alike, agree_first, ag
 use Rattle.service_board.proofs.ByClient.{all_turned}
 use Rattle.service_board.proofs.ByClient.{are_after, clients_of, clients_stay, go_alike, steps_of, streams_went, within}
 use Rattle.service_board.proofs.ByClient.{within_each, within_none}
+use Rattle.service_board.proofs.WornEntries.{is_here}
 
 -- an entry that is played is open on the endpoint
-open_by : (seen : Gate) → is_open_gate seen ≡ true → seen ≡ gate.Open
-open_by gate.Open h = refl
-open_by (gate.Closed reason) h = absurd (false≢true h)
-
 pub plays_here : {E : Type 0} (number : ℕ) (e : StreamEntry E) → is_played number e ≡ true →
     (e.endpoint.0 ≡ number) × (e.gate ≡ gate.Open)
-plays_here number e h =
-    let parts = and_parts (e.endpoint.0 == number) _ h in
-    (eqb-true e.endpoint.0 number parts.0, open_by e.gate (and_parts (is_open_gate e.gate) _ parts.1).0)
+plays_here number e h = let at = is_here number is_render e h in (at.here, at.unclosed)
 
 -- ---- what the Sound needs
 
@@ -83,12 +80,14 @@ module _ {E : Type 0} (moves : E → List Step → E → Type 0) (state : E → 
   }
 
   pub all_mixable : (f : Stream → Stream) (keeps : (a : StreamEntry E) → (f (stream_with no_data a)).gate ≡ a.gate)
-      (channels : ℕ) (xs ys : List (StreamEntry E)) → AllZip (Turned moves f) xs ys → All (IsPlayable state number frames channels) xs →
+      (channels : ℕ) (xs ys : List (StreamEntry E)) → AllZip (Turned moves f) xs ys →
+      All (IsPlayable state number frames channels) xs →
       All (IsPicked state number frames) ys → All (IsMixable channels) ys
   all_mixable f keeps channels [] [] h playable picked = All-nil (IsMixable channels)
   all_mixable f keeps channels (x ∷ xs) (y ∷ ys) h playable picked =
       All-cons (IsMixable channels) y ys
-      (one_mixable channels x y h.0.same (h.0.gate ∙ keeps x) (All-head (IsPlayable state number frames channels) x xs playable)
+      (one_mixable channels x y h.0.same (h.0.gate ∙ keeps x)
+      (All-head (IsPlayable state number frames channels) x xs playable)
       (All-head (IsPicked state number frames) y ys picked))
       (all_mixable f keeps channels xs ys h.1 (All-tail (IsPlayable state number frames channels) x xs playable)
       (All-tail (IsPicked state number frames) y ys picked))
@@ -100,83 +99,129 @@ module _ {E : Type 0} (moves : E → List Step → E → Type 0) (state : E → 
   picks_gate a =
       chosen (λ (s : Stream). s.gate ≡ a.gate) (is_playing number (stream_with no_data a)) _ _ refl refl
 
-  -- ---- positions
+  -- ---- positions, and what was offered
 
-  picked_position : (a b : StreamEntry E) → b.position ≡ (picks_on number frames (stream_with no_data a)).position →
-      b.position ≡ a.position
-  picked_position a b h =
-      h ∙ chosen (λ (s : Stream). s.position ≡ a.position) (is_playing number (stream_with no_data a)) _ _ refl refl
+  picks_leave : (a : StreamEntry E) →
+      ((picks_on number frames (stream_with no_data a)).position ≡ a.position)
+      × ((picks_on number frames (stream_with no_data a)).ever ≡ a.ever)
+  picks_leave a =
+      chosen (λ (s : Stream). (s.position ≡ a.position) × (s.ever ≡ a.ever))
+      (is_playing number (stream_with no_data a)) _ _ (refl, refl) (refl, refl)
+
+  -- what a period adds to a count of a stream
+  abbrev Adds : Bool → ℕ → ℕ
+  Adds whole endpoint = if whole && endpoint == number then frames else 0
 
   -- what was rendered of an entry is within the period, and of the endpoint's entries alone
-  abbrev IsNear : Bool → StreamEntry E → StreamEntry E → Type 0
-  IsNear whole b c = c.position ≤ b.position + (if whole && b.endpoint.0 == number then frames else 0)
-
-  retired_position : (b c : StreamEntry E) → IsPicked state number frames b →
-      c.position ≡ (retires_on number (stream_with no_data b)).position → IsNear true b c
-  retired_position b c picked h =
-      subst (λ p. p ≤ b.position + (if b.endpoint.0 == number then frames else 0)) (sym h)
-      (chosen_by (λ (s : Stream). s.position ≤ b.position + (if b.endpoint.0 == number then frames else 0))
+  retired_position : (b : StreamEntry E) → IsPicked state number frames b →
+      (retires_on number (stream_with no_data b)).position ≤ b.position + Adds true b.endpoint.0
+  retired_position b picked =
+      chosen_by (λ (s : Stream). s.position ≤ b.position + Adds true b.endpoint.0)
       (is_playing number (stream_with no_data b)) _ _
       (λ plays.
       let here = (and_parts (b.endpoint.0 == number) _ plays).0 in
       let within = picked.within in
       subst (λ t. b.position + b.picked ≤ b.position + (if t then frames else 0)) (sym here) (omega arith))
-      (λ plays. omega arith))
+      (λ plays. omega arith)
 
-  closed_position : (b c : StreamEntry E) → c.position ≡ (closes_within Removal (Some number) (stream_with no_data b)).position →
-      IsNear false b c
-  closed_position b c h =
-      let same : c.position ≡ b.position =
-      h ∙ chosen (λ (s : Stream). s.position ≡ b.position) _ _ _ refl refl in
-      omega arith
+  retires_leave : (b : StreamEntry E) →
+      ((retires_on number (stream_with no_data b)).endpoint ≡ b.endpoint.0)
+      × ((retires_on number (stream_with no_data b)).ever ≡ b.ever)
+      × ((retires_on number (stream_with no_data b)).gate ≡ b.gate)
+  retires_leave b =
+      chosen (λ (s : Stream). (s.endpoint ≡ b.endpoint.0) × (s.ever ≡ b.ever) × (s.gate ≡ b.gate))
+      (is_playing number (stream_with no_data b)) _ _ (refl, refl, refl) (refl, refl, refl)
 
-  ended_position : (whole : Bool) (b c : StreamEntry E) → IsPicked state number frames b →
-      c.position ≡ (ends_on number whole (stream_with no_data b)).position → IsNear whole b c
-  ended_position true b c picked h = retired_position b c picked h
-  ended_position false b c picked h = closed_position b c h
+  module _ (heard : List Frame) (size : length heard ≡ frames) where
+    -- a stream that hears is offered as much, and so is none of another endpoint
+    heard_ever : (s : Stream) → (fed_if (is_hearing number) heard s).ever ≤ s.ever + Adds true s.endpoint
+    heard_ever s =
+        chosen_by (λ (t : Stream). t.ever ≤ s.ever + Adds true s.endpoint) (is_hearing number s)
+        (moved (fed heard) s) s
+        (λ hears.
+        let here = (and_parts (s.endpoint == number) _ hears).0 in
+        subst (λ t. s.ever + length heard ≤ s.ever + (if t then frames else 0)) (sym here) (omega (arith, size)))
+        (λ hears. omega arith)
 
-  -- and no gate opens
-  closed_opens : gate.Closed Removal ≡ gate.Open → ⊥
-  closed_opens h = cc
+    heard_leaves : (s : Stream) →
+        ((fed_if (is_hearing number) heard s).position ≡ s.position)
+        × ((fed_if (is_hearing number) heard s).gate ≡ s.gate)
+    heard_leaves s =
+        chosen (λ (t : Stream). (t.position ≡ s.position) × (t.gate ≡ s.gate)) (is_hearing number s)
+        (moved (fed heard) s) s (refl, refl) (refl, refl)
 
-  ended_opens : (whole : Bool) (b c : StreamEntry E) → c.gate ≡ (ends_on number whole (stream_with no_data b)).gate →
-      c.gate ≡ gate.Open → b.gate ≡ gate.Open
-  ended_opens true b c h unclosed =
-      sym (h ∙ chosen (λ (s : Stream). s.gate ≡ b.gate) (is_playing number (stream_with no_data b)) _ _ refl refl)
-      ∙ unclosed
-  ended_opens false b c h unclosed =
-      chosen (λ (s : Stream). s.gate ≡ gate.Open → b.gate ≡ gate.Open) (is_open_on number (stream_with no_data b))
-      (moved (closed Removal) (stream_with no_data b)) (stream_with no_data b) (λ k. absurd (closed_opens k)) (λ k. k)
-      (sym h ∙ unclosed)
+    closes_leave : (b : StreamEntry E) →
+        ((closes_within Removal (Some number) (stream_with no_data b)).position ≡ b.position)
+        × ((closes_within Removal (Some number) (stream_with no_data b)).ever ≡ b.ever)
+    closes_leave b =
+        chosen (λ (s : Stream). (s.position ≡ b.position) × (s.ever ≡ b.ever))
+        (is_open_on number (stream_with no_data b)) (moved (closed Removal) (stream_with no_data b))
+        (stream_with no_data b) (refl, refl) (refl, refl)
 
-  near : (whole : Bool) (a a' b c : StreamEntry E) → IsSameEntry a a' → IsSameEntry a' b → a'.position ≡ a.position →
-      b.position ≡ a'.position → IsNear whole b c → IsNear whole a c
-  near whole a a' b c same same' p p' h =
-      let endpoint : b.endpoint.0 ≡ a.endpoint.0 = ap (λ e. e.0) (same'.endpoint ∙ same.endpoint) in
-      let at : c.position ≤ b.position + (if whole && a.endpoint.0 == number then frames else 0) =
-      subst (λ n. c.position ≤ b.position + (if whole && n == number then frames else 0)) endpoint h in
-      omega arith
+    ended_position : (whole : Bool) (b : StreamEntry E) → IsPicked state number frames b →
+        (ends_on number heard whole (stream_with no_data b)).position ≤ b.position + Adds whole b.endpoint.0
+    ended_position true b picked =
+        subst (λ p. p ≤ b.position + Adds true b.endpoint.0)
+        (sym (heard_leaves (retires_on number (stream_with no_data b))).0) (retired_position b picked)
+    ended_position false b picked = let same = (closes_leave b).0 in omega arith
 
-  pub all_near : (whole : Bool) (ss : ℕ → List Step) (xs ys zs ws : List (StreamEntry E)) →
-      AllZip (Turned moves (picks_on number frames)) xs ys → AllTakeSteps moves ss ys zs →
-      All (IsPicked state number frames) zs → AllZip (Turned moves (ends_on number whole)) zs ws →
-      AllZip (StaysNear number frames whole) xs ws
-  all_near whole ss [] [] [] [] h k picked l = tt
-  all_near whole ss (x ∷ xs) (y ∷ ys) (z ∷ zs) (w ∷ ws) h k picked l = (
-    record {
-      position =
-          near whole x y z w h.0.same k.0.same (picked_position x y h.0.position) k.0.position
-          (ended_position whole z w (All-head (IsPicked state number frames) z zs picked) l.0.position);
-      opens = λ unclosed. sym (k.0.gate ∙ h.0.gate ∙ picks_gate x) ∙ ended_opens whole z w l.0.gate unclosed;
-    },
-    all_near whole ss xs ys zs ws h.1 k.1 (All-tail (IsPicked state number frames) z zs picked) l.1,
-  )
-  all_near whole ss [] [] [] (w ∷ ws) h k picked l = absurd l
-  all_near whole ss [] [] (z ∷ zs) ws h k picked l = absurd k
-  all_near whole ss [] (y ∷ ys) zs ws h k picked l = absurd h
-  all_near whole ss (x ∷ xs) [] zs ws h k picked l = absurd h
-  all_near whole ss (x ∷ xs) (y ∷ ys) [] ws h k picked l = absurd k
-  all_near whole ss (x ∷ xs) (y ∷ ys) (z ∷ zs) [] h k picked l = absurd l
+    ended_ever : (whole : Bool) (b : StreamEntry E) →
+        (ends_on number heard whole (stream_with no_data b)).ever ≤ b.ever + Adds whole b.endpoint.0
+    ended_ever true b =
+        let leave = retires_leave b in
+        subst (λ k. (ends_on number heard true (stream_with no_data b)).ever ≤ k + Adds true b.endpoint.0) leave.1
+        (subst (λ k. (ends_on number heard true (stream_with no_data b)).ever
+        ≤ (retires_on number (stream_with no_data b)).ever + Adds true k) leave.0
+        (heard_ever (retires_on number (stream_with no_data b))))
+    ended_ever false b = let same = (closes_leave b).1 in omega arith
+
+    -- and no gate opens
+    closed_opens : gate.Closed Removal ≡ gate.Open → ⊥
+    closed_opens h = cc
+
+    ended_opens : (whole : Bool) (b : StreamEntry E) →
+        (ends_on number heard whole (stream_with no_data b)).gate ≡ gate.Open → b.gate ≡ gate.Open
+    ended_opens true b unclosed =
+        sym ((heard_leaves (retires_on number (stream_with no_data b))).1 ∙ (retires_leave b).2) ∙ unclosed
+    ended_opens false b unclosed =
+        chosen (λ (s : Stream). s.gate ≡ gate.Open → b.gate ≡ gate.Open) (is_open_on number (stream_with no_data b))
+        (moved (closed Removal) (stream_with no_data b)) (stream_with no_data b) (λ k. absurd (closed_opens k))
+        (λ k. k) unclosed
+
+    -- a count that was kept as far as the Sound, and rose by that at its end
+    near : (whole : Bool) (x y z w end k n : ℕ) → y ≡ x → z ≡ y → w ≡ end → end ≤ z + Adds whole k → k ≡ n →
+        w ≤ x + Adds whole n
+    near whole x y z w end k n p q r h at =
+        subst (λ m. w ≤ x + Adds whole m) at
+        (let sum : w ≤ x + Adds whole k = omega arith in sum)
+
+    pub all_near : (whole : Bool) (ss : ℕ → List Step) (xs ys zs ws : List (StreamEntry E)) →
+        AllZip (Turned moves (picks_on number frames)) xs ys → AllTakeSteps moves ss ys zs →
+        All (IsPicked state number frames) zs → AllZip (Turned moves (ends_on number heard whole)) zs ws →
+        AllZip (StaysNear number frames whole) xs ws
+    all_near whole ss [] [] [] [] h k picked l = tt
+    all_near whole ss (x ∷ xs) (y ∷ ys) (z ∷ zs) (w ∷ ws) h k picked l =
+        let leave = picks_leave x in
+        let endpoint : z.endpoint.0 ≡ x.endpoint.0 = ap (λ e. e.0) (k.0.same.endpoint ∙ h.0.same.endpoint) in (
+          record {
+            position =
+                near whole x.position y.position z.position w.position _ z.endpoint.0 x.endpoint.0
+                (h.0.position ∙ leave.0) k.0.position l.0.position
+                (ended_position whole z (All-head (IsPicked state number frames) z zs picked)) endpoint;
+            ever =
+                near whole x.ever y.ever z.ever w.ever _ z.endpoint.0 x.endpoint.0 (h.0.ever ∙ leave.1) k.0.ever
+                l.0.ever (ended_ever whole z) endpoint;
+            opens = λ unclosed.
+                sym (k.0.gate ∙ h.0.gate ∙ picks_gate x) ∙ ended_opens whole z (sym l.0.gate ∙ unclosed);
+          },
+          all_near whole ss xs ys zs ws h.1 k.1 (All-tail (IsPicked state number frames) z zs picked) l.1,
+        )
+    all_near whole ss [] [] [] (w ∷ ws) h k picked l = absurd l
+    all_near whole ss [] [] (z ∷ zs) ws h k picked l = absurd k
+    all_near whole ss [] (y ∷ ys) zs ws h k picked l = absurd h
+    all_near whole ss (x ∷ xs) [] zs ws h k picked l = absurd h
+    all_near whole ss (x ∷ xs) (y ∷ ys) [] ws h k picked l = absurd k
+    all_near whole ss (x ∷ xs) (y ∷ ys) (z ∷ zs) [] h k picked l = absurd l
 
   -- ---- the mix
 
@@ -212,16 +257,22 @@ module _ {E : Type 0} (moves : E → List Step → E → Type 0) (state : E → 
   -- ---- the whole period
 
   module _ (joins : (a b c : E) (s t : List Step) → moves a s b → moves b t c → moves a (s ++ t) c) (whole : Bool)
-      (ends : List ℕ) (xs ys zs ws : List (StreamEntry E)) (faults faults' : ℕ) (told told' : Option (List DeviceLog))
-      (entries : AreEntries xs) (picks : AllZip (Turned moves (picks_on number frames)) xs ys)
-      (sounds : Sounds moves number frames ends whole ys zs faults told faults' told')
-      (picked : All (IsPicked state number frames) zs) (endings : AllZip (Turned moves (ends_on number whole)) zs ws)
+      (ends bytes : List ℕ) (xs ys zs ws : List (StreamEntry E)) (faults faults' : ℕ)
+      (told told' : Option (List DeviceLog)) (entries : AreEntries xs)
+      (picks : AllZip (Turned moves (picks_on number frames)) xs ys)
+      (sounds : Sounds moves number frames ends bytes whole ys zs faults told faults' told')
+      (picked : All (IsPicked state number frames) zs)
+      (endings : AllZip (Turned moves (ends_on number (frames_from frames (length ends) bytes) whole)) zs ws)
     where
+      -- the frames that were written
+      abbrev heard : List Frame
+      heard = frames_from frames (length ends) bytes
+
       abbrev first_steps : ℕ → List Step
       first_steps = steps_of moves (picks_on number frames) xs ys picks
 
       abbrev last_steps : ℕ → List Step
-      last_steps = steps_of moves (ends_on number whole) zs ws endings
+      last_steps = steps_of moves (ends_on number heard whole) zs ws endings
 
       abbrev later_steps : ℕ → List Step
       later_steps n = sounds.steps n ++ last_steps n
@@ -242,21 +293,22 @@ module _ {E : Type 0} (moves : E → List Step → E → Type 0) (state : E → 
           ys picks))
           entries.order
 
-      last_go : AllGo moves (ends_on number whole) last_steps zs ws
-      last_go = all_turned moves (ends_on number whole) 0 zs ws endings rises_there
+      last_go : AllGo moves (ends_on number heard whole) last_steps zs ws
+      last_go = all_turned moves (ends_on number heard whole) 0 zs ws endings rises_there
 
-      all_go : AllGo moves (plays_on number frames whole) all_steps xs ws
+      all_go : AllGo moves (plays_on number frames heard whole) all_steps xs ws
       all_go =
-          all_after moves joins (picks_on number frames) (ends_on number whole) first_steps later_steps xs ys ws
+          all_after moves joins (picks_on number frames) (ends_on number heard whole) first_steps later_steps xs ys ws
           first_go
-          (all_after moves joins (λ s. s) (ends_on number whole) sounds.steps last_steps ys zs ws sound_go last_go)
+          (all_after moves joins (λ s. s) (ends_on number heard whole) sounds.steps last_steps ys zs ws sound_go
+          last_go)
 
       abbrev its_steps : ℕ → List Step
       its_steps = within xs all_steps
 
       mixed_there : (datas : ℕ → BufferData) (m : Mixing) → AllAgree its_steps datas xs →
           MixesThese m number frames ends xs →
-          sounds.bytes ≡ sound_bytes m (map (picks_on number frames) (streams_of datas xs))
+          bytes ≡ sound_bytes m (map (picks_on number frames) (streams_of datas xs))
       mixed_there datas m agree mixes =
           let datas' : ℕ → BufferData = after_steps first_steps xs datas in
           let agrees : AllAgree all_steps datas xs =
@@ -275,11 +327,13 @@ module _ {E : Type 0} (moves : E → List Step → E → Type 0) (state : E → 
       pub plays : Plays moves number frames ends whole xs ws faults told faults' told'
       plays = record {
         steps = its_steps;
-        went = go_alike moves (plays_on number frames whole) all_steps its_steps xs ws (within_each xs all_steps)
+        bytes = bytes;
+        went = go_alike moves (plays_on number frames heard whole) all_steps its_steps xs ws (within_each xs all_steps)
             all_go;
         none = within_none xs all_steps;
-        places = all_near whole sounds.steps xs ys zs ws picks sounds.made picked endings;
-        bytes = sounds.bytes;
+        places =
+            all_near heard (length-frames_from frames (length ends) bytes) whole sounds.steps xs ys zs ws picks
+            sounds.made picked endings;
         mixed = mixed_there;
         offers = sounds.offers;
       }

@@ -31,7 +31,7 @@ use Rattle.service_book.specs.declared.book.Book.{Book}
 use Rattle.service_board.specs.Board.{playhead_of}
 use Rattle.service_board.specs.Closing.{Disconnects}
 use Rattle.service_board.specs.Does.{AnyData, Does}
-use Rattle.service_board.specs.InOrder.{InOrder, IsOn, Seats, is_seat}
+use Rattle.service_board.specs.InOrder.{InOrder, IsOn, Seats, is_seat, next_at}
 use Rattle.service_board.specs.NamedEndpoints.{FindsNamed}
 use Rattle.service_board.specs.declared.board.Board.{Board}
 use Rattle.service_board.specs.declared.board.Seat.{Seat}
@@ -105,24 +105,30 @@ module _ {D E : Type 0} (moves : E → List Step → E → Type 0) (state : E �
   -- ---- the order of the board
 
   -- the other endpoints are there still
-  keeps_on : (n channels position : ℕ) → (n == number) ≡ false →
-      IsOn n channels position b.book.registry.list b.seats.items →
-      IsOn n channels position registry.list seats.items
-  keeps_on n channels position other on = record {
-    endpoint = on.endpoint;
-    there =
-        ap (λ (r : EndpointList). find (is_endpoint n) r.list) is
-        ∙ find_left (is_endpoint n) (λ e. not (is_endpoint number e)) (λ e own. is_left n number e.no.0 other own)
-        b.book.registry.list
-        ∙ on.there;
-    fits = on.fits;
-    behind =
-        subst (λ (o : Option Seat). position ≤ option_map_or (λ s. s.next) o 0)
-        (sym (ap (find (is_seat n)) left
-        ∙ find_left (is_seat n) (λ s. not (is_seat number s)) (λ s own. is_left n number s.endpoint.0 other own)
-        b.seats.items))
-        on.behind;
-  }
+  next_left : (n : ℕ) → (n == number) ≡ false → next_at n seats.items ≡ next_at n b.seats.items
+  next_left n other =
+      ap (λ (o : Option Seat). option_map_or (λ s. s.next) o 0)
+      (ap (find (is_seat n)) left
+      ∙ find_left (is_seat n) (λ s. not (is_seat number s)) (λ s own. is_left n number s.endpoint.0 other own)
+      b.seats.items)
+
+  keeps_on : (e : StreamEntry E) → (e.endpoint.0 == number) ≡ false →
+      IsOn e b.book.registry.list b.seats.items → IsOn e registry.list seats.items
+  keeps_on e other on =
+      let next = next_left e.endpoint.0 other in
+      record {
+        endpoint = on.endpoint;
+        there =
+            ap (λ (r : EndpointList). find (is_endpoint e.endpoint.0) r.list) is
+            ∙ find_left (is_endpoint e.endpoint.0) (λ x. not (is_endpoint number x))
+            (λ x own. is_left e.endpoint.0 number x.no.0 other own) b.book.registry.list
+            ∙ on.there;
+        fits = on.fits;
+        lasts = on.lasts;
+        suited = on.suited;
+        behind = subst (λ k. e.position ≤ k) (sym next) on.behind;
+        hears = λ loopback. subst (λ k. e.ever ≤ k) (sym next) (on.hears loopback);
+      }
 
   still_book : IsBook removed_book
   still_book =

@@ -12,11 +12,11 @@ use Rattle.ca_machine.specs.State.{State}
 use Rattle.ca_machine.specs.Plan.{Plan}
 use Rattle.ca_machine.specs.View.{AnswersBy, outside}
 use Rattle.period_engine.specs.declared.entry.StreamEntry.{StreamEntry}
-use Rattle.period_engine.specs.Agreement.{Agrees, AllAgree, data_after}
+use Rattle.period_engine.specs.Agreement.{Agrees, AllAgree, ArePacked, data_after, layout_of}
 use Rattle.period_engine.specs.Entries.{stream_of, stream_with, streams_of}
 use Rattle.service_book.specs.BookState.{book_state}
 use Rattle.service_board.specs.Board.{playhead_of, state_of}
-use Rattle.service_board.specs.Does.{Does, Made, after_steps, channels_at, store_at}
+use Rattle.service_board.specs.Does.{Does, Made, after_steps, layout_at, store_at}
 use Rattle.service_board.specs.Gains.{HasSameStream, HasSameStreams}
 use Rattle.service_board.specs.declared.board.Board.{Board}
 
@@ -42,19 +42,19 @@ module _ {E : Type 0} where
   store_same n [] (y ∷ ys) h = absurd h
   store_same n (x ∷ xs) [] h = absurd h
 
-  channels_same : (n : ℕ) (xs ys : List (StreamEntry E)) → AllZip HasSameStream xs ys →
-      channels_at n ys ≡ channels_at n xs
-  channels_same n [] [] h = refl
-  channels_same n (x ∷ xs) (y ∷ ys) h =
-      ap₂ (λ (e : StreamEntry E) o. if e.client.0 == n then e.channels else o) h.0 (channels_same n xs ys h.1)
-  channels_same n [] (y ∷ ys) h = absurd h
-  channels_same n (x ∷ xs) [] h = absurd h
+  layout_same : (n : ℕ) (xs ys : List (StreamEntry E)) → AllZip HasSameStream xs ys →
+      layout_at n ys ≡ layout_at n xs
+  layout_same n [] [] h = refl
+  layout_same n (x ∷ xs) (y ∷ ys) h =
+      ap₂ (λ (e : StreamEntry E) o. if e.client.0 == n then layout_of e else o) h.0 (layout_same n xs ys h.1)
+  layout_same n [] (y ∷ ys) h = absurd h
+  layout_same n (x ∷ xs) [] h = absurd h
 
   agree_same : (steps : ℕ → List Step) (datas : ℕ → BufferData) (xs ys : List (StreamEntry E)) →
       AllZip HasSameStream xs ys → AllAgree steps datas xs → AllAgree steps datas ys
   agree_same steps datas [] [] h agree = tt
   agree_same steps datas (x ∷ xs) (y ∷ ys) h agree = (
-    subst (λ (e : StreamEntry E). Agrees e.channels (steps e.client.0) (datas e.client.0)) (sym h.0) agree.0,
+    subst (λ (e : StreamEntry E). Agrees (layout_of e) (steps e.client.0) (datas e.client.0)) (sym h.0) agree.0,
     agree_same steps datas xs ys h.1 agree.1,
   )
   agree_same steps datas [] (y ∷ ys) h agree = absurd h
@@ -93,8 +93,8 @@ module _ {D E : Type 0} (faults : D → ℕ) (told : D → Option (List DeviceLo
           streams = streams;
         }) tally)
         (streams_by (after_steps made.steps mid.entries.items datas) (after_steps made.steps old.entries.items datas)
-        (λ n. ap (λ channels. data_after channels (made.steps n) (datas n))
-        (channels_same n old.entries.items mid.entries.items same.entries))
+        (λ n. ap (λ l. data_after l (made.steps n) (datas n))
+        (layout_same n old.entries.items mid.entries.items same.entries))
         new.entries.items)
 
     -- what the board with other gains did, the board did
@@ -104,6 +104,9 @@ module _ {D E : Type 0} (faults : D → ℕ) (told : D → Option (List DeviceLo
       made = λ client.
           subst (λ o. Made moves given (made.steps client) o (store_at client new.entries.items))
           (store_same client old.entries.items mid.entries.items same.entries) (made.made client);
+      packs = λ client.
+          subst (λ l. ArePacked l (made.steps client))
+          (layout_same client old.entries.items mid.entries.items same.entries) (made.packs client);
       does = λ datas tally agrees knows.
           let did =
           made.does datas tally (agree_same made.steps datas old.entries.items mid.entries.items same.entries agrees)

@@ -73,7 +73,6 @@ module _ (sessions : SessionList) where
     opens = h.opens;
     within = h.within;
     gains = λ same. absurd (true≢false same);
-    renders = h.renders;
   }
 
   pub sessions_order : {D E : Type 0} (state : E → EndState) (b : Board D E) → InOrder state b →
@@ -211,7 +210,6 @@ module _ (conn client channel level : ℕ) where
       opens = h.opens;
       within = h.within;
       gains = λ same. absurd (true≢false same);
-      renders = h.renders;
     }
 
 -- a board stays in order after a level of a call's client was set

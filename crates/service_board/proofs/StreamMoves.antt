@@ -15,7 +15,7 @@ use Rattle.ca_base.specs.Rows.{Row, first}
 use Rattle.volume_stack.specs.Scaling.{unit_gain}
 use Rattle.buffer_ring.specs.declared.step.EndState.{EndState}
 use Rattle.buffer_ring.specs.declared.step.Step.{Step}
-use Rattle.ca_stage.specs.Stage.{BufferData, Stream, is_open, is_open_gate}
+use Rattle.ca_stage.specs.Stage.{BufferData, Stream, is_loopback, is_open, is_open_gate}
 use Rattle.ca_stage.specs.Moves.{StreamMove, of_client, moved, playhead_after, stream_after}
 use Rattle.ca_stage.specs.Order.{RisesFrom}
 use Rattle.ca_stage.specs.Tally.{Tally, tally_after}
@@ -29,21 +29,22 @@ use Rattle.ca_machine.specs.Plan.{Outcome, Plan, granted}
 use Rattle.ca_machine.specs.SharedRows.{stream_plan, with_stream}
 use Rattle.ca_machine.specs.View.{AnswersBy, outside}
 use Rattle.period_engine.specs.declared.entry.StreamEntry.{StreamEntry}
-use Rattle.period_engine.specs.Agreement.{Agrees, AllAgree, data_after}
+use Rattle.period_engine.specs.Agreement.{Agrees, AllAgree, ArePacked, data_after, layout_of}
 use Rattle.period_engine.specs.Entries.{AreInOrder, IsRested, stream_of, stream_with, streams_of}
 use Rattle.period_engine.specs.SubSteps.{IsSameEntry}
 use Rattle.service_book.specs.BookState.{book_state}
 use Rattle.service_board.specs.Board.{playhead_of, state_of}
-use Rattle.service_board.specs.Does.{Does, Made, after_steps, channels_at, store_at}
+use Rattle.service_board.specs.Does.{Does, Made, after_steps, layout_at, store_at}
 use Rattle.ca_base.specs.declared.ids.EndpointNo.{EndpointNo}
 use Rattle.service_book.specs.InOrder.{IsBook}
 use Rattle.service_book.specs.Gains.{gains_by}
 use Rattle.service_book.specs.declared.book.Book.{Book}
-use Rattle.service_board.specs.InOrder.{IsOn, Belongs, InOrder, Seats, next_at}
+use Rattle.service_board.specs.InOrder.{IsOn, Belongs, InOrder, Seats, next_at, suits}
 use Rattle.service_board.specs.declared.board.Board.{Board}
 use Rattle.service_board.specs.declared.board.Seat.{Seat}
 use Rattle.service_board.proofs.Doing.{answers_refused}
-use Rattle.service_board.proofs.OneEntry.{IsSole, agrees_found, channels_found, made_only, only, only_here, sole_there, streams_set}
+use Rattle.service_board.proofs.OneEntry.{IsSole, agrees_found, layout_found, made_only, only, only_here, packs_only}
+use Rattle.service_board.proofs.OneEntry.{sole_there, streams_set}
 use Rattle.service_board.proofs.Granting.{answers_granted}
 use Rattle.service_board.proofs.StreamRows.{Opened, grants_outcome, stream_own}
 
@@ -57,41 +58,48 @@ pub record ChangesOne {D E : Type 0} (at : ℕ) (changed : StreamEntry E) (old n
   pub entries : new.entries.items ≡ set old.entries.items at changed
   pub room : vec_capacity new.entries ≡ vec_capacity old.entries
 
--- an endpoint that an entry is on is still the one of an entry like it whose position isn't beyond
-on_kept : (endpoints : List Endpoint) (seats : List Seat) (n m : EndpointNo) (channels channels' p q : ℕ) → m ≡ n →
-    channels' ≡ channels → q ≤ p → IsOn n.0 channels p endpoints seats → IsOn m.0 channels' q endpoints seats
-on_kept endpoints seats n m channels channels' p q same fits le on =
-    let place : p ≤ next_at m.0 seats = subst (λ k. p ≤ next_at k.0 seats) (sym same) on.behind in
-    record {
-      endpoint = on.endpoint;
-      there = ap (λ k. find (is_endpoint k.0) endpoints) same ∙ on.there;
-      fits = fits ∙ on.fits;
-      behind = omega arith;
-    }
+-- an entry like one that is on its endpoint is on it, if its counts aren't beyond
+pub on_kept : {E : Type 0} (endpoints : List Endpoint) (seats : List Seat) (a b : StreamEntry E) → IsSameEntry a b →
+    b.position ≤ a.position → b.ever ≤ a.ever → IsOn a endpoints seats → IsOn b endpoints seats
+on_kept endpoints seats a b same before offered on = record {
+  endpoint = on.endpoint;
+  there = ap (λ k. find (is_endpoint k.0) endpoints) same.endpoint ∙ on.there;
+  fits = same.channels ∙ on.fits;
+  lasts = same.period ∙ on.lasts;
+  suited = ap (suits on.endpoint.flow) same.kind ∙ on.suited;
+  behind =
+      let place : a.position ≤ next_at b.endpoint.0 seats =
+      subst (λ k. a.position ≤ next_at k.0 seats) (sym same.endpoint) on.behind in
+      omega arith;
+  hears = λ loopback.
+      let place : a.ever ≤ next_at b.endpoint.0 seats =
+      subst (λ k. a.ever ≤ next_at k.0 seats) (sym same.endpoint)
+      (on.hears (ap is_loopback (sym same.kind) ∙ loopback)) in
+      omega arith;
+}
 
 -- an entry still belongs to a book
 pub belongs_kept : {E : Type 0} (book : Book) (seats : List Seat) (a b : StreamEntry E) → IsSameEntry a b →
-    (b.gate ≡ gate.Open → a.gate ≡ gate.Open) → b.position ≤ a.position → Belongs book seats a → Belongs book seats b
-belongs_kept book seats a b same opens before h = record {
+    (b.gate ≡ gate.Open → a.gate ≡ gate.Open) → b.position ≤ a.position → b.ever ≤ a.ever → Belongs book seats a →
+    Belongs book seats b
+belongs_kept book seats a b same opens before offered h = record {
   client = h.client;
   live = ap (λ n. find (λ c. c.client.0 == n.0) book.clients.items) same.client ∙ h.live;
   on = h.on ∙ ap (λ n. n.0) (sym same.endpoint);
-  opens = λ unclosed.
-      on_kept book.registry.list seats a.endpoint b.endpoint a.channels b.channels a.position b.position same.endpoint
-      same.channels before (h.opens (opens unclosed));
+  opens = λ unclosed. on_kept book.registry.list seats a b same before offered (h.opens (opens unclosed));
   within = subst (All (λ gain. gain ≤ unit_gain)) (sym same.gains) h.within;
   gains = λ fresh.
       same.gains
       ∙ h.gains fresh
       ∙ ap (λ s. gains_by h.client.levels (session_at s.0 book.sessions.list)) (sym same.session);
-  renders = same.kind ∙ h.renders;
 }
 
 -- a board stays in order
 pub order_kept : {D E : Type 0} (state : E → EndState) (old new : Board D E) (at : ℕ) (a b : StreamEntry E) →
     slice_get old.entries.items at ≡ Some a → (b.gate ≡ gate.Open → a.gate ≡ gate.Open) → ChangesOne at b old new →
-    IsSameEntry a b → IsRested state b → b.position ≤ a.position → InOrder state old → InOrder state new
-order_kept state old new at a b here opens one same rested before order =
+    IsSameEntry a b → IsRested state b → b.position ≤ a.position → b.ever ≤ a.ever → InOrder state old →
+    InOrder state new
+order_kept state old new at a b here opens one same rested before offered order =
     let xs = old.entries.items in
     let within = slice_get_within xs at a here in
     let reads : get_or xs at a ≡ a = get_or_from_slice_get xs at a a here in
@@ -108,7 +116,7 @@ order_kept state old new at a b here opens one same rested before order =
           (subst (λ k. All (Belongs k new.seats.items) (set xs at b)) (sym one.book)
           (subst (λ ss. All (Belongs old.book ss) (set xs at b)) (sym one.seats)
           (All-set (Belongs old.book old.seats.items) xs at b
-          (belongs_kept old.book old.seats.items a b same opens before belonged) order.belong)));
+          (belongs_kept old.book old.seats.items a b same opens before offered belonged) order.belong)));
       seats = subst (λ ss. AllZip Seats ss new.book.registry.list) (sym one.seats)
           (subst (λ k. AllZip Seats old.seats.items k.registry.list) (sym one.book) order.seats);
       book = subst IsBook (sym one.book) order.book;
@@ -121,7 +129,8 @@ order_kept state old new at a b here opens one same rested before order =
 module _ {D E : Type 0} (faults : D → ℕ) (told : D → Option (List DeviceLog)) (moves : E → List Step → E → Type 0)
     (stays : (a : E) → moves a [] a) (old new : Board D E) (conn at : ℕ) (a b : StreamEntry E)
     (there : Opened conn a.client.0 old at a) (rises : AreInOrder old.entries.items) (one : ChangesOne at b old new)
-    (same : b.client ≡ a.client) (ss : List Step) (made : moves a.store ss b.store) where
+    (same : b.client ≡ a.client) (ss : List Step) (made : moves a.store ss b.store)
+    (packs : ArePacked (layout_of a) ss) where
   abbrev steps : ℕ → List Step
   steps = only a.client.0 ss
 
@@ -135,28 +144,31 @@ module _ {D E : Type 0} (faults : D → ℕ) (told : D → Option (List DeviceLo
       (sym one.entries)
       (made_only a b (ap (λ n. n.0) same) moves None stays ss made old.entries.items at sole client)
 
+  packs_all : (client : ℕ) → ArePacked (layout_at client old.entries.items) (steps client)
+  packs_all client = packs_only a ss packs old.entries.items at sole client
+
   module _ (datas : ℕ → BufferData) where
     abbrev datas' : ℕ → BufferData
     datas' = after_steps steps old.entries.items datas
 
-    agree : AllAgree steps datas old.entries.items → Agrees a.channels ss (datas a.client.0)
+    agree : AllAgree steps datas old.entries.items → Agrees (layout_of a) ss (datas a.client.0)
     agree agrees =
-        subst (λ xs. Agrees a.channels xs (datas a.client.0)) (only_here a.client.0 ss)
+        subst (λ xs. Agrees (layout_of a) xs (datas a.client.0)) (only_here a.client.0 ss)
         (agrees_found a steps datas old.entries.items at sole agrees)
 
-    after_here : datas' a.client.0 ≡ data_after a.channels ss (datas a.client.0)
+    after_here : datas' a.client.0 ≡ data_after (layout_of a) ss (datas a.client.0)
     after_here =
-        ap₂ (λ n xs. data_after n xs (datas a.client.0)) (channels_found a old.entries.items at sole)
+        ap₂ (λ l xs. data_after l xs (datas a.client.0)) (layout_found a old.entries.items at sole)
         (only_here a.client.0 ss)
 
     after_others : (n : ℕ) → (a.client.0 ≡ n → ⊥) → datas' n ≡ datas n
     after_others n other =
-        ap (λ x. data_after (channels_at n old.entries.items) (if x then ss else []) (datas n))
+        ap (λ x. data_after (layout_at n old.entries.items) (if x then ss else []) (datas n))
         (ne_eqb a.client.0 n other)
 
     -- the state afterwards, where f moves the stream and leaves the others
     state_after : (f : Stream → Stream) → ((s : Stream) → (s.client ≡ a.client.0 → ⊥) → f s ≡ s) →
-        f (stream_of datas a) ≡ stream_with (data_after a.channels ss (datas a.client.0)) b → (tally : Tally) →
+        f (stream_of datas a) ≡ stream_with (data_after (layout_of a) ss (datas a.client.0)) b → (tally : Tally) →
         state_of datas' tally new
         ≡ book_state old.book (record {
           playheads = map playhead_of old.seats.items;
@@ -177,9 +189,9 @@ module _ {D E : Type 0} (faults : D → ℕ) (told : D → Option (List DeviceLo
 
   -- a move of the client's stream is granted
   module _ (rows : Option Stream → List (Row Hr)) (m : StreamMove) (known : BufferData → Type 0)
-      (own : (d : BufferData) → Agrees a.channels ss d → known d → first (rows (Some (stream_with d a))) ≡ None)
-      (turns : (d : BufferData) → Agrees a.channels ss d → known d →
-      moved m (stream_with d a) ≡ stream_with (data_after a.channels ss d) b) where
+      (own : (d : BufferData) → Agrees (layout_of a) ss d → known d → first (rows (Some (stream_with d a))) ≡ None)
+      (turns : (d : BufferData) → Agrees (layout_of a) ss d → known d →
+      moved m (stream_with d a) ≡ stream_with (data_after (layout_of a) ss d) b) where
     abbrev move_plan : State → Plan
     move_plan st = stream_plan st conn a.client.0 rows (λ s. granted [] (of_client a.client.0 m ∷ []) st)
 
@@ -197,6 +209,7 @@ module _ {D E : Type 0} (faults : D → ℕ) (told : D → Option (List DeviceLo
     move_does = record {
       steps = steps;
       made = made_all;
+      packs = packs_all;
       does = λ datas tally agrees knows.
           let st = state_of datas tally old in
           let agreed = agree datas agrees in
@@ -232,10 +245,10 @@ module _ {D E : Type 0} (faults : D → ℕ) (told : D → Option (List DeviceLo
   -- a row refuses it for what a look found
   module _ (rows : Option Stream → List (Row Hr)) (outcome : State → Stream → Outcome) (known : BufferData → Type 0)
       (code : Hr)
-      (own : (d : BufferData) → Agrees a.channels ss d → known d →
+      (own : (d : BufferData) → Agrees (layout_of a) ss d → known d →
       first (rows (Some (stream_with d a))) ≡ Some code)
-      (turns : (d : BufferData) → Agrees a.channels ss d → known d →
-      stream_with d a ≡ stream_with (data_after a.channels ss d) b) where
+      (turns : (d : BufferData) → Agrees (layout_of a) ss d → known d →
+      stream_with d a ≡ stream_with (data_after (layout_of a) ss d) b) where
     abbrev look_plan : State → Plan
     look_plan st = stream_plan st conn a.client.0 rows (outcome st)
 
@@ -243,6 +256,7 @@ module _ {D E : Type 0} (faults : D → ℕ) (told : D → Option (List DeviceLo
     look_does = record {
       steps = steps;
       made = made_all;
+      packs = packs_all;
       does = λ datas tally agrees knows.
           let st = state_of datas tally old in
           let agreed = agree datas agrees in
@@ -263,6 +277,13 @@ module _ {D E : Type 0} (faults : D → ℕ) (told : D → Option (List DeviceLo
                 (own (datas a.client.0) agreed knows))));
           };
     }
+
+-- the layout of a call's stream is found by its client
+pub layout_there : {D E : Type 0} (conn client : ℕ) (b : Board D E) (at : ℕ) (e : StreamEntry E) →
+    Opened conn client b at e → AreInOrder b.entries.items → layout_at client b.entries.items ≡ layout_of e
+layout_there conn client b at e there rises =
+    ap (λ n. layout_at n b.entries.items) (sym there.client_is)
+    ∙ layout_found e b.entries.items at (sole_there 0 b.entries.items rises at e there.here)
 
 -- the entry of a client, by the client's number
 pub by_number : {D E : Type 0} (conn client : ℕ) (b : Board D E) (at : ℕ) (e : StreamEntry E) →
@@ -309,6 +330,8 @@ rested_running state runs e h = record {
     gate = h.fits.gate;
     size = h.fits.size;
     position = h.fits.position;
+    offered = h.fits.offered;
+    ever = h.fits.ever;
     some_channel = h.fits.some_channel;
     few_channels = h.fits.few_channels;
   };
@@ -320,27 +343,28 @@ module _ {D E : Type 0} (faults : D → ℕ) (told : D → Option (List DeviceLo
     (stays : (a : E) → moves a [] a) (old new : Board D E) (conn client at : ℕ) (a b : StreamEntry E)
     (there : Opened conn client old at a) (rises : AreInOrder old.entries.items) (one : ChangesOne at b old new)
     (same : b.client ≡ a.client) (ss : List Step) (made : moves a.store ss b.store)
-    (rows : Option Stream → List (Row Hr)) (known : BufferData → Type 0) where
-  pub move_done : (m : StreamMove) →
-      ((d : BufferData) → Agrees a.channels ss d → known d → first (rows (Some (stream_with d a))) ≡ None) →
-      ((d : BufferData) → Agrees a.channels ss d → known d →
-      moved m (stream_with d a) ≡ stream_with (data_after a.channels ss d) b) →
-      Does faults told moves None (λ datas. known (datas client)) old new
-      (λ st. stream_plan st conn client rows (λ s. granted [] (of_client client m ∷ []) st)) hr.S_OK []
-  move_done m own turns =
-      subst (λ n. Does faults told moves None (λ datas. known (datas n)) old new
-      (λ st. stream_plan st conn n rows (λ s. granted [] (of_client n m ∷ []) st)) hr.S_OK []) there.client_is
-      (move_does faults told moves stays old new conn at a b (by_number conn client old at a there) rises one
-      same ss made rows m known own turns)
+    (packs : ArePacked (layout_of a) ss) (rows : Option Stream → List (Row Hr)) (known : BufferData → Type 0)
+  where
+    pub move_done : (m : StreamMove) →
+        ((d : BufferData) → Agrees (layout_of a) ss d → known d → first (rows (Some (stream_with d a))) ≡ None) →
+        ((d : BufferData) → Agrees (layout_of a) ss d → known d →
+        moved m (stream_with d a) ≡ stream_with (data_after (layout_of a) ss d) b) →
+        Does faults told moves None (λ datas. known (datas client)) old new
+        (λ st. stream_plan st conn client rows (λ s. granted [] (of_client client m ∷ []) st)) hr.S_OK []
+    move_done m own turns =
+        subst (λ n. Does faults told moves None (λ datas. known (datas n)) old new
+        (λ st. stream_plan st conn n rows (λ s. granted [] (of_client n m ∷ []) st)) hr.S_OK []) there.client_is
+        (move_does faults told moves stays old new conn at a b (by_number conn client old at a there) rises one
+        same ss made packs rows m known own turns)
 
-  pub look_done : (outcome : State → Stream → Outcome) (code : Hr) →
-      ((d : BufferData) → Agrees a.channels ss d → known d → first (rows (Some (stream_with d a))) ≡ Some code) →
-      ((d : BufferData) → Agrees a.channels ss d → known d →
-      stream_with d a ≡ stream_with (data_after a.channels ss d) b) →
-      Does faults told moves None (λ datas. known (datas client)) old new
-      (λ st. stream_plan st conn client rows (outcome st)) code []
-  look_done outcome code own turns =
-      subst (λ n. Does faults told moves None (λ datas. known (datas n)) old new
-      (λ st. stream_plan st conn n rows (outcome st)) code []) there.client_is
-      (look_does faults told moves stays old new conn at a b (by_number conn client old at a there) rises one
-      same ss made rows outcome known code own turns)
+    pub look_done : (outcome : State → Stream → Outcome) (code : Hr) →
+        ((d : BufferData) → Agrees (layout_of a) ss d → known d → first (rows (Some (stream_with d a))) ≡ Some code) →
+        ((d : BufferData) → Agrees (layout_of a) ss d → known d →
+        stream_with d a ≡ stream_with (data_after (layout_of a) ss d) b) →
+        Does faults told moves None (λ datas. known (datas client)) old new
+        (λ st. stream_plan st conn client rows (outcome st)) code []
+    look_done outcome code own turns =
+        subst (λ n. Does faults told moves None (λ datas. known (datas n)) old new
+        (λ st. stream_plan st conn n rows (outcome st)) code []) there.client_is
+        (look_does faults told moves stays old new conn at a b (by_number conn client old at a there) rises one
+        same ss made packs rows outcome known code own turns)

@@ -94,6 +94,7 @@ module _ {D E : Type 0} (faults : D → ℕ) (told : D → Option (List DeviceLo
     own_refused code own = record {
       steps = λ client. [];
       made = λ client. made_still moves None stays (store_at client b.entries.items);
+      packs = λ client. tt;
       does = λ datas tally agrees knows. record {
         tally = tally;
         answers =
@@ -111,6 +112,7 @@ module _ {D E : Type 0} (faults : D → ℕ) (told : D → Option (List DeviceLo
     own_told payload own tells = record {
       steps = λ client. [];
       made = λ client. made_still moves None stays (store_at client b.entries.items);
+      packs = λ client. tt;
       does = λ datas tally agrees knows. record {
         tally = tally;
         answers =

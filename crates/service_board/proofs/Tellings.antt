@@ -42,7 +42,6 @@ drafted_order state b queues drafts same room order =
             opens = h.opens;
             within = h.within;
             gains = h.gains;
-            renders = h.renders;
           }) b.entries.items order.belong;
       seats = order.seats;
       book = record {

@@ -10,6 +10,9 @@ IsPlainCall (call.GetCurrentPadding c) = ⊥
 IsPlainCall (call.Reset c) = ⊥
 IsPlainCall (call.GetBuffer c frames) = ⊥
 IsPlainCall (call.ReleaseBuffer c frames flags bytes) = ⊥
+IsPlainCall (call.GetNextPacketSize c) = ⊥
+IsPlainCall (call.CaptureGetBuffer c) = ⊥
+IsPlainCall (call.CaptureReleaseBuffer c frames) = ⊥
 IsPlainCall (call.EnumSessions e) = ⊥
 IsPlainCall (call.EnumEndpoints flow mask) = ⊥
 IsPlainCall (call.DeviceInfo e) = ⊥
@@ -20,6 +23,7 @@ IsPlainCall _ = Unit {0}
 
 -- a call whose payload is a few bytes
 abbrev pub IsShortCall : Call → Type 0
+IsShortCall (call.CaptureGetBuffer c) = ⊥
 IsShortCall (call.EnumSessions e) = ⊥
 IsShortCall (call.GetSession s) = ⊥
 IsShortCall (call.EnumEndpoints flow mask) = ⊥

@@ -1,33 +1,39 @@
 -- What holds of a board between events (this project's own).
-use Rattle.std.specs.Prelude.{◌≡◌, ℕ, ◌*◌, ◌≤◌, ◌==◌, List, Bool, false}
+use Rattle.std.specs.Prelude.{◌≡◌, ℕ, ◌*◌, ◌≤◌, ◌==◌, not, List, Bool, false, true}
 use Rattle.std.specs.Prelude.{Some}
 use Rattle.std.specs.List.{All, AllZip, find}
 use Rattle.std.specs.Option.{option_map_or}
 use Rattle.std.specs.Vec.{vec_capacity}
 use Rattle.ca_base.specs.declared.ids.Gate.TheVariants as gate
-use Rattle.ca_base.specs.declared.ids.StreamKind.TheVariants.{Render}
+use Rattle.ca_base.specs.declared.ids.Flow.{Flow}
+use Rattle.ca_base.specs.declared.ids.Flow.TheVariants as flow
+use Rattle.ca_base.specs.declared.ids.StreamKind.{StreamKind}
 use Rattle.ca_base.specs.declared.limits.TheConstants.{CLIENTS, ENDPOINTS, MAX_COUNT, NOTICES}
 use Rattle.wave_format.specs.Format.{IsValid}
 use Rattle.volume_stack.specs.Scaling.{unit_gain}
 use Rattle.buffer_ring.specs.declared.step.EndState.{EndState}
 use Rattle.session_manager.specs.Sessions.{session_at}
+use Rattle.ca_stage.specs.Stage.{is_capture, is_loopback}
 use Rattle.ca_machine.specs.declared.state.Client.{Client}
 use Rattle.device_registry.specs.declared.endpoint.Endpoint.{Endpoint}
 use Rattle.device_registry.specs.Endpoints.{is_endpoint}
 use Rattle.ca_machine.specs.Periods.{period_frames}
 use Rattle.period_engine.specs.declared.entry.StreamEntry.{StreamEntry}
 use Rattle.period_engine.specs.Entries.{AreInOrder, IsRested}
+use Rattle.period_engine.specs.Sounds.{HasFeedRoom}
 use Rattle.service_book.specs.declared.book.Book.{Book}
 use Rattle.service_book.specs.InOrder.{IsBook}
 use Rattle.service_book.specs.Gains.{gains_by}
 use Rattle.service_board.specs.declared.board.Board.{Board}
 use Rattle.service_board.specs.declared.board.Seat.{Seat}
 
--- a seat is that of an endpoint: its next place is in range, and a period fits in its scratch
+-- a seat is that of an endpoint: its next place is in range, and a period fits in its scratch, to be played and to be
+-- offered as a packet
 pub record Seats (seat : Seat) (e : Endpoint) : Type 0 where
   pub number : seat.endpoint.0 ≡ e.no.0
   pub next : seat.next ≤ MAX_COUNT
   pub block : period_frames e * e.format.channels ≤ seat.block.samples
+  pub feed : HasFeedRoom e.format.channels (period_frames e) seat.block
   pub format : IsValid e.format
 
 -- a seat of an endpoint's number
@@ -38,24 +44,31 @@ is_seat number s = s.endpoint.0 == number
 abbrev pub next_at : ℕ → List Seat → ℕ
 next_at number seats = option_map_or (λ s. s.next) (find (is_seat number) seats) 0
 
--- an endpoint is there with so many channels, and a position isn't beyond its next place
-pub record IsOn (number channels position : ℕ) (endpoints : List Endpoint) (seats : List Seat) : Type 0 where
-  pub endpoint : Endpoint
-  pub there : find (is_endpoint number) endpoints ≡ Some endpoint
-  pub fits : channels ≡ endpoint.format.channels
-  pub behind : position ≤ next_at number seats
+-- streams that play, and those that hear what is played, are on endpoints that play; those that record on ones that do
+abbrev pub suits : Flow → StreamKind → Bool
+suits flow.Render kind = not (is_capture kind)
+suits flow.Capture kind = is_capture kind
 
--- an entry is that of a live client, on the client's endpoint; if it is open, the endpoint is there with its channels,
--- and its position isn't beyond the endpoint's next place; its gains are in range, and unless levels have changed they
--- are those of the levels; its stream renders
+-- an entry's endpoint is there with its channels and its period, and suits its kind; its position isn't beyond the
+-- endpoint's next place, nor, if it hears what is played, is what it was offered
+pub record IsOn {E : Type 0} (e : StreamEntry E) (endpoints : List Endpoint) (seats : List Seat) : Type 0 where
+  pub endpoint : Endpoint
+  pub there : find (is_endpoint e.endpoint.0) endpoints ≡ Some endpoint
+  pub fits : e.channels ≡ endpoint.format.channels
+  pub lasts : e.period ≡ period_frames endpoint
+  pub suited : suits endpoint.flow e.kind ≡ true
+  pub behind : e.position ≤ next_at e.endpoint.0 seats
+  pub hears : is_loopback e.kind ≡ true → e.ever ≤ next_at e.endpoint.0 seats
+
+-- an entry is that of a live client, on the client's endpoint; if it is open, it is on the endpoint; its gains are in
+-- range, and unless levels have changed they are those of the levels
 pub record Belongs {E : Type 0} (book : Book) (seats : List Seat) (e : StreamEntry E) : Type 0 where
   pub client : Client
   pub live : find (λ c. c.client.0 == e.client.0) book.clients.items ≡ Some client
   pub on : client.endpoint.0 ≡ e.endpoint.0
-  pub opens : e.gate ≡ gate.Open → IsOn e.endpoint.0 e.channels e.position book.registry.list seats
+  pub opens : e.gate ≡ gate.Open → IsOn e book.registry.list seats
   pub within : All (λ gain. gain ≤ unit_gain) e.gains
   pub gains : book.levels_changed ≡ false → e.gains ≡ gains_by client.levels (session_at e.session.0 book.sessions.list)
-  pub renders : e.kind ≡ Render
 
 -- a board between events: entries stand in rising order of their clients' numbers, nothing is picked, and the tables
 -- fit one another

@@ -1,9 +1,7 @@
 -- What an Initialize asks for and opens, as the code has it (this project's own).
 use Rattle.std.specs.Prelude.{◌≡◌, ℕ, ◌≤◌, nat_lt, List, [], ◌∷◌, Bool, false, Option, Some, None}
 use Rattle.std.specs.List.{find, insert}
-use Rattle.ca_base.specs.declared.ids.Dir.TheVariants as dir
 use Rattle.ca_base.specs.declared.ids.Gate.TheVariants as gate
-use Rattle.ca_base.specs.declared.ids.StreamKind.TheVariants as kind
 use Rattle.ca_base.specs.declared.ids.SessionNo.{SessionNo}
 use Rattle.ca_base.specs.declared.limits.TheConstants.{MAX_STORE_WORDS, SHARED_PERIOD}
 use Rattle.ca_base.specs.Rows.{first}
@@ -17,7 +15,8 @@ use Rattle.device_registry.specs.declared.endpoint.Endpoint.{Endpoint}
 use Rattle.ca_machine.specs.declared.state.Connection.{Connection}
 use Rattle.ca_machine.specs.State.{is_client_of, is_connection}
 use Rattle.device_registry.specs.Endpoints.{is_endpoint}
-use Rattle.ca_machine.specs.Streams.{initialize_rows, shared_buffer}
+use Rattle.ca_machine.specs.Data.{dir_of}
+use Rattle.ca_machine.specs.Streams.{initialize_rows, kind_opened, shared_buffer, words_stored}
 use Rattle.period_engine.specs.declared.entry.StreamEntry.{StreamEntry}
 use Rattle.service_book.specs.declared.opening.Opening.{Opening as Asked}
 use Rattle.service_book.specs.declared.opening.OpeningPlan.{OpeningPlan}
@@ -30,7 +29,7 @@ abbrev pub new_entry : {E : Type 0} → Asked → OpeningPlan → SessionNo → 
 new_entry x plan session store = record {
   client = x.client;
   endpoint = plan.endpoint;
-  kind = kind.Render;
+  kind = plan.kind;
   exclusive = false;
   event = false;
   channels = plan.format.channels;
@@ -38,13 +37,16 @@ new_entry x plan session store = record {
   buffer = plan.buffer;
   period = frames_of_time plan.format.rate SHARED_PERIOD;
   store = store;
-  room = plan.buffer;
+  room = plan.words;
   latency = SHARED_PERIOD;
   session = session;
   gate = gate.Open;
   running = false;
   picked = 0;
   position = 0;
+  offered = 0;
+  ever = 0;
+  after_gap = false;
   gains = unit_gain ∷ unit_gain ∷ unit_gain ∷ unit_gain ∷ [];
 }
 
@@ -66,15 +68,19 @@ pub record Plans {D E : Type 0} (x : Asked) (b : Board D E) (plan : OpeningPlan)
   pub connected : find (is_connection x.conn.0) b.book.connections.items ≡ Some connection
   pub key : plan.key ≡ key_by x connection plan.endpoint
   pub format : HasFormat endpoint.format x plan.format
+  pub kind : plan.kind ≡ kind_opened endpoint.flow x.flags
   pub buffer : plan.buffer ≡ shared_buffer plan.format.rate x.duration
-  pub some : 1 ≤ plan.buffer
-  pub most : plan.buffer ≤ MAX_STORE_WORDS
+  pub some_frame : 1 ≤ plan.buffer
+  pub words : plan.words ≡ words_stored plan.kind plan.buffer (frames_of_time plan.format.rate SHARED_PERIOD)
+  pub some : 1 ≤ plan.words
+  pub most : plan.words ≤ MAX_STORE_WORDS
   pub joins : first (join_rows plan.key b.book.sessions) ≡ None
   pub says : Says b (λ st. initialize_rows st x.conn.0 x.client.0 (arguments x)) None
 
--- the engine's end of a new store of this size: it renders, its gate is open, and nothing was seen there
-abbrev pub IsNewStore : {E : Type 0} → (E → EndState) → ℕ → E → Type 0
-IsNewStore state cap store = state store ≡ record { cap = cap; dir = dir.Render; gate = gate.Open; seen = 0 }
+-- the engine's end of the new store that was planned: its gate is open, and nothing was seen there
+abbrev pub IsNewStore : {E : Type 0} → (E → EndState) → OpeningPlan → E → Type 0
+IsNewStore state plan store =
+    state store ≡ record { cap = plan.words; dir = dir_of plan.kind; gate = gate.Open; seen = 0 }
 
 -- nothing was ever released for a client
 abbrev pub IsFresh : ℕ → (ℕ → BufferData) → Type 0

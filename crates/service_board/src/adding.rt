@@ -11,13 +11,13 @@ ghost use Rattle.service_board.specs.Lookups.{Says};
 use crate::{Board, Seat};
 use buffer_ring::EngineSide;
 use ca_base::limits::ENDPOINTS;
-use ca_base::values::{FLOW_CAPTURE, STATE_ACTIVE};
-use ca_base::{EndpointNo, Flow, Hr, Text};
+use ca_base::values::STATE_ACTIVE;
+use ca_base::{EndpointNo, Hr, Text};
 use device_io::Devices;
 use device_registry::Endpoint;
 use period_engine::Block;
 use reply_payload::Payload;
-use service_book::period_frames;
+use service_book::{flow_of, period_frames};
 use std::alloc::Global;
 use wave_format::{Format, read_format};
 
@@ -36,9 +36,6 @@ impl<D, E: EngineSide> Board<D, E> {
         ensures format { IfOk result (λ f. format_at format.now ≡ Ok f) }
     {
         self.runs()?;
-        if flow == FLOW_CAPTURE {
-            return Err(Hr::E_NOTIMPL);
-        }
         if self.book.is_wrong_add(number, flow, name) {
             return Err(Hr::E_INVALIDARG);
         }
@@ -53,7 +50,7 @@ impl<D, E: EngineSide> Board<D, E> {
 }
 
 impl<D: Devices, E: EngineSide> Board<D, E> {
-    /// Adds a render endpoint of this number, with a format as the bytes of a WAVEFORMATEX. The memory for its periods
+    /// Adds an endpoint of this number and flow, with a format as the bytes of a WAVEFORMATEX. The memory for its periods
     /// is taken now: E_OUTOFMEMORY if there is none.
     pub fn add(
         &mut self,
@@ -71,7 +68,7 @@ impl<D: Devices, E: EngineSide> Board<D, E> {
         let format = self.check_add(number, flow, format, name)?;
         let endpoint = Endpoint {
             no: number,
-            flow: Flow::Render,
+            flow: flow_of(flow),
             state: STATE_ACTIVE,
             format,
             name: *name,

@@ -12,11 +12,11 @@ ghost use Rattle.service_board.specs.Openings.{Enters, IsFresh, IsNewStore, Plan
 use crate::Board;
 use buffer_ring::EngineSide;
 use ca_base::limits::{MAX_LEVEL, SHARED_PERIOD};
-use ca_base::{ClientNo, Gate, Hr, SessionNo, StreamKind};
+use ca_base::{ClientNo, Gate, Hr, SessionNo};
 use device_io::Devices;
 use period_engine::StreamEntry;
 use reply_payload::Payload;
-use service_book::{Opening, OpeningPlan, shared_buffer, shared_period};
+use service_book::{Opening, OpeningPlan, shared_buffer, shared_period, words_stored};
 
 /// The entry of the stream that is opened, in a session, with its store.
 fn entry_of<E>(x: &Opening, plan: &OpeningPlan, session: SessionNo, store: E) -> StreamEntry<E>
@@ -26,7 +26,7 @@ fn entry_of<E>(x: &Opening, plan: &OpeningPlan, session: SessionNo, store: E) ->
     StreamEntry {
         client: x.client,
         endpoint: plan.endpoint,
-        kind: StreamKind::Render,
+        kind: plan.kind,
         exclusive: false,
         event: false,
         channels: plan.format.channels,
@@ -34,13 +34,16 @@ fn entry_of<E>(x: &Opening, plan: &OpeningPlan, session: SessionNo, store: E) ->
         buffer: plan.buffer,
         period: shared_period(plan.format.rate),
         store,
-        room: plan.buffer,
+        room: plan.words,
         latency: SHARED_PERIOD,
         session,
         gate: Gate::Open,
         running: false,
         picked: 0,
         position: 0,
+        offered: 0,
+        ever: 0,
+        after_gap: false,
         gains: [MAX_LEVEL; 4],
     }
 }
@@ -65,8 +68,8 @@ impl<D: Devices, E: EngineSide> Board<D, E> {
         }
     }
 
-    /// What an Initialize opens, and the store that it needs: one of `buffer` words that renders. All rows are looked
-    /// at but that of memory, and a refusal is the call's.
+    /// What an Initialize opens, and the store that it needs: one of `words` words for streams of its kind. All rows are
+    /// looked at but that of memory, and a refusal is the call's.
     pub fn plan_initialize(&self, x: &Opening) -> Result<OpeningPlan, Hr>
         requires order { InOrder E.state self.now }
         ensures refused { IfErr result (λ code.
@@ -84,13 +87,18 @@ impl<D: Devices, E: EngineSide> Board<D, E> {
         }
         x.check_arguments()?;
         let endpoint = self.book.endpoint(place);
+        x.check_flow(endpoint.flow)?;
         let format = x.format_for(&endpoint.format)?;
         let key = x.session_key(&self.book.connections[from], endpoint.no);
         self.book.sessions.check_join(&key)?;
+        let kind = x.kind_on(endpoint.flow);
+        let buffer = shared_buffer(format.rate, x.duration);
         Ok(OpeningPlan {
             endpoint: endpoint.no,
             format,
-            buffer: shared_buffer(format.rate, x.duration),
+            kind,
+            buffer,
+            words: words_stored(kind, buffer, shared_period(format.rate)),
             key,
         })
     }
@@ -107,7 +115,7 @@ impl<D: Devices, E: EngineSide> Board<D, E> {
     ) -> Result<Payload, Hr>
         requires order { InOrder E.state self.old }
         requires planned { Plans x.now self.old plan.now }
-        requires store { IfSome store (IsNewStore E.state plan.now.buffer) }
+        requires store { IfSome store (IsNewStore E.state plan.now) }
         ensures opens { is_ok result ≡ is_some store }
         ensures does { Does D.faults D.told E.moves store (IsFresh x.now.client.0) self.old self.new
             (opening_plan x.now) (code_of result) (payload_of result) }

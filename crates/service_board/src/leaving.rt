@@ -19,7 +19,7 @@ use device_io::Devices;
 use period_engine::StreamEntry;
 use reply_payload::Payload;
 use service_book::{drop_client, drop_clients, drop_connection, drop_notices, is_live};
-use session_manager::SessionBook;
+use session_manager::{Session, SessionBook};
 
 /// Closes the store of a stream that is none of these clients', if it is open.
 fn close_unless_live<E: EngineSide>(entry: &mut StreamEntry<E>, clients: &[Client])
@@ -64,12 +64,19 @@ pub fn is_in_use<E>(entries: &[StreamEntry<E>], session: SessionNo) -> bool
     entries.iter().any(|entry| entry.session == session)
 }
 
+/// Whether one of these streams is of this session, as the book has it.
+fn is_used<E>(entries: &[StreamEntry<E>], session: &Session) -> bool
+    ensures { result ≡ is_in_use entries.now session.now }
+{
+    is_in_use(entries, session.no)
+}
+
 /// Takes all sessions but those of these streams away.
 fn drop_sessions<E>(sessions: &mut SessionBook, entries: &[StreamEntry<E>])
     ensures left { sessions.new.list ≡ remaining (is_in_use entries.now) sessions.old.list }
     ensures made { sessions.new.made ≡ sessions.old.made }
 {
-    sessions.keep(|s| is_in_use(entries, s.no));
+    sessions.keep(|s| is_used(entries, s));
 }
 
 impl<D, E: EngineSide> Board<D, E> {

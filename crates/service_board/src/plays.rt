@@ -1,12 +1,12 @@
 //! The sub-steps of a period over the engine's ends of streams: picks, the Sound, and what follows it if the device
 //! fails.
 
-ghost use Rattle.std.specs.Prelude.{◌≡◌, ◌*◌, ◌≤◌, Some, is_ok, length};
+ghost use Rattle.std.specs.Prelude.{◌≡◌, ◌*◌, ◌≤◌, Some, is_ok, length, take};
 ghost use Rattle.std.specs.List.{All, AllZip};
 ghost use Rattle.ca_base.specs.declared.ids.Reason.TheVariants.{Removal};
 ghost use Rattle.ca_base.specs.declared.limits.TheConstants.{CLIENTS};
 ghost use Rattle.period_engine.specs.Entries.{AreEntries, IsPicked, IsRested};
-ghost use Rattle.period_engine.specs.Sounds.{AreEnds};
+ghost use Rattle.period_engine.specs.Sounds.{AreEnds, IsSameSize};
 ghost use Rattle.period_engine.specs.SubSteps.{Turned};
 ghost use Rattle.service_board.specs.Closing.{IsClosable, closes_within};
 ghost use Rattle.service_board.specs.Plays.{IsPlayable, PicksAndSounds};
@@ -36,10 +36,11 @@ pub fn play<D: Devices, E: EngineSide>(
     requires playable { All (IsPlayable E.state e.0 p (length ends.now)) all.old }
     requires ends { AreEnds ends.now }
     requires block { p * length ends.now ≤ block.old.samples }
-    ensures sounds { PicksAndSounds E.moves e.0 p ends.now (is_ok result) all.old all.new
+    ensures sounds { PicksAndSounds E.moves e.0 p ends.now (take (2 * (p * length ends.now)) block.new.bytes)
+        (is_ok result) all.old all.new
         (D.faults devices.old) (D.told devices.old) (D.faults devices.new) (D.told devices.new) }
     ensures picked { All (IsPicked E.state e.0 p) all.new }
-    ensures block { block.new ≡ block.old }
+    ensures block { IsSameSize block.old block.new }
 {
     pick(all, e, p);
     sound(all, e, p, ends, block, devices)

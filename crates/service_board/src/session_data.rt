@@ -19,11 +19,18 @@ use device_io::Devices;
 use period_engine::StreamEntry;
 use reply_payload::{REPLY_ROOM, put_session, put_sessions_of};
 
+/// Whether a stream is of this session and runs.
+fn runs_in<E>(entry: &StreamEntry<E>, session: SessionNo) -> bool
+    ensures { result ≡ (entry.now.session.0 == session.0 && entry.now.running) }
+{
+    entry.session == session && entry.running
+}
+
 /// Whether one of these streams is of this session and runs.
 fn is_running<E>(entries: &[StreamEntry<E>], session: SessionNo) -> bool
     ensures { result ≡ list_any (λ e. e.session.0 == session.0 && e.running) entries.now }
 {
-    entries.iter().any(|e| e.session == session && e.running)
+    entries.iter().any(|e| runs_in(e, session))
 }
 
 /// AudioSessionState of a session: active while a stream of it runs, inactive while it has streams and none runs, and

@@ -1,37 +1,66 @@
 //! Control calls of a client's open stream (IAudioClient, IAudioClock).
 
-ghost use Rattle.std.specs.Prelude.{◌≡◌, ◌≤◌, ◌==◌, ◌&&◌, None};
+ghost use Rattle.std.specs.Prelude.{◌≡◌, ◌+◌, ◌≤◌, if◌then◌else◌, None};
 ghost use Rattle.ca_base.specs.declared.ids.Gate.TheVariants as gate;
 ghost use Rattle.ca_machine.specs.Streams.{get_buffer_size_plan, get_stream_latency_plan, get_position_plan};
-ghost use Rattle.ca_machine.specs.Streams.{get_service_plan, start_plan, stop_plan, reset_plan};
-ghost use Rattle.period_engine.specs.Entries.{IsRested};
+ghost use Rattle.ca_machine.specs.Streams.{get_service_plan, position_of, reset_plan, start_plan, stop_plan};
+ghost use Rattle.ca_base.specs.declared.limits.TheConstants.{MAX_STORE_WORDS};
+ghost use Rattle.ca_stage.specs.Stage.{BufferData, is_render};
+ghost use Rattle.period_engine.specs.Entries.{IsRested, stream_with};
 ghost use Rattle.reply_payload.specs.Answers.{code_of, payload_of};
 ghost use Rattle.service_board.specs.Does.{AnyData, Does};
 ghost use Rattle.service_board.specs.InOrder.{InOrder};
-ghost use Rattle.service_board.specs.StreamCalls.{Empties, IsLeased};
+ghost use Rattle.service_board.specs.StreamCalls.{Empties, IsKnown};
 
 use crate::Board;
 use buffer_ring::EngineSide;
-use ca_base::{ClientNo, ConnNo, Hr};
+use ca_base::{ClientNo, ConnNo, Hr, StreamKind};
 use device_io::Devices;
 use period_engine::StreamEntry;
 use reply_payload::Payload;
 use service_book::{is_of_other_kind, is_service};
 
+/// How many words of a stream's store come and go at once: that of a frame, or those of a packet.
+fn word_unit<E>(entry: &StreamEntry<E>) -> u32
+    requires { entry.now.period + 1 ≤ MAX_STORE_WORDS }
+    ensures { result ≡ (if is_render entry.now.kind then 1 else entry.now.period + 1) }
+{
+    match entry.kind {
+        StreamKind::Render => 1,
+        StreamKind::Capture | StreamKind::Loopback => entry.period + 1,
+    }
+}
+
+/// The position of a stream: the frames rendered since the last Reset, or those offered since then to one that records.
+fn position_of<E>(entry: &StreamEntry<E>) -> u64
+    ensures { (d : BufferData) → result ≡ position_of (stream_with d entry.now) }
+{
+    match entry.kind {
+        StreamKind::Render => entry.position,
+        StreamKind::Capture | StreamKind::Loopback => entry.offered,
+    }
+}
+
 /// Throws away what is pending in a stream's store, and its position. Whether there was something to throw away.
 fn empty<E: EngineSide>(entry: &mut StreamEntry<E>) -> bool
     requires rested { IsRested E.state entry.old }
     requires open { entry.old.gate ≡ gate.Open }
+    requires some { 1 ≤ entry.old.period }
+    requires most { entry.old.period + 1 ≤ MAX_STORE_WORDS }
     ensures empties { Empties E.moves result entry.old entry.new }
     ensures rested { IsRested E.state entry.new }
     ensures back { entry.new.position ≤ entry.old.position }
+    ensures ever { entry.new.ever ≡ entry.old.ever }
 {
-    let held = entry.store.held();
-    if held == 0 && entry.position == 0 {
+    let unit = word_unit(entry);
+    let whole = entry.store.held() / unit;
+    if whole == 0 && position_of(entry) == 0 {
         return false;
     }
-    entry.store.retire(held);
+    entry.store.retire(whole * unit);
     entry.position = 0;
+    entry.offered = 0;
+    entry.after_gap = false;
     true
 }
 
@@ -56,7 +85,8 @@ impl<D: Devices, E: EngineSide> Board<D, E> {
         Ok(Payload::Long(self.entries[at].latency))
     }
 
-    /// IAudioClock::GetPosition: the frames rendered since the last Reset, and the frames a second.
+    /// IAudioClock::GetPosition: the frames rendered since the last Reset, or those offered since then to a stream that
+    /// records; and the frames a second.
     pub fn get_position(&self, conn: ConnNo, client: ClientNo) -> Result<Payload, Hr>
         requires order { InOrder E.state self.now }
         ensures does { Does D.faults D.told E.moves None AnyData self.now self.now
@@ -64,7 +94,7 @@ impl<D: Devices, E: EngineSide> Board<D, E> {
     {
         let at = self.open_stream(conn, client)?;
         let entry = &self.entries[at];
-        Ok(Payload::Longs(entry.position, entry.rate as u64))
+        Ok(Payload::Longs(position_of(entry), entry.rate as u64))
     }
 
     /// IAudioClient::GetService: E_NOINTERFACE for a service that isn't listed, AUDCLNT_E_WRONG_ENDPOINT_TYPE for one
@@ -118,8 +148,8 @@ impl<D: Devices, E: EngineSide> Board<D, E> {
     /// position is 0. S_FALSE if there is nothing to throw away.
     pub fn reset(&mut self, conn: ConnNo, client: ClientNo, has_lease: bool) -> Result<Payload, Hr>
         requires order { InOrder E.state self.old }
-        ensures does { Does D.faults D.told E.moves None (IsLeased client.0 has_lease) self.old self.new
-            (λ st. reset_plan st conn.0 client.0) (code_of result) (payload_of result) }
+        ensures does { Does D.faults D.told E.moves None (IsKnown client.0 has_lease self.old.entries.items)
+            self.old self.new (λ st. reset_plan st conn.0 client.0) (code_of result) (payload_of result) }
         ensures order { InOrder E.state self.new }
     {
         let at = self.open_stream(conn, client)?;

@@ -72,3 +72,9 @@ pub matched_channels : (endpoint format : Format) → true ≡ matches endpoint 
 matched_channels endpoint format e =
     sym (eqb-true endpoint.channels format.channels
     (and_parts (endpoint.channels == format.channels) (endpoint.rate == format.rate) (sym e)).0)
+
+pub matched_rate : (endpoint format : Format) → true ≡ matches endpoint format →
+    format.rate ≡ endpoint.rate
+matched_rate endpoint format e =
+    sym (eqb-true endpoint.rate format.rate
+    (and_parts (endpoint.channels == format.channels) (endpoint.rate == format.rate) (sym e)).1)

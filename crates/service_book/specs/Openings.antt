@@ -1,20 +1,22 @@
 -- What an Initialize asks for, and the session that its stream joins, as the code has it (this project's own).
-use Rattle.std.specs.Prelude.{◌≡◌, ◌||◌, not, nat_lt, List, [], ◌∷◌, true, None}
+use Rattle.std.specs.Prelude.{◌≡◌, ◌==◌, ◌&&◌, ◌||◌, not, nat_lt, List, [], ◌∷◌, true, None}
 use Rattle.std.specs.Prelude.{if◌then◌else◌}
 use Rattle.ca_base.specs.declared.codes.Hr.{Hr}
 use Rattle.ca_base.specs.declared.codes.TheConstants.Hr as hr
 use Rattle.ca_base.specs.declared.ids.EndpointNo.{EndpointNo}
+use Rattle.ca_base.specs.declared.ids.Flow.{Flow}
 use Rattle.ca_base.specs.declared.ids.SessionNo.{SessionNo}
-use Rattle.ca_base.specs.declared.values.TheConstants.{SHARE_EXCLUSIVE}
+use Rattle.ca_base.specs.declared.values.TheConstants.{FLOW_CAPTURE, SHARE_EXCLUSIVE}
 use Rattle.ca_base.specs.Rows.{Row}
 use Rattle.wave_format.specs.declared.format.Format.{Format}
 use Rattle.wave_format.specs.Format.{IsValid, spelled}
+use Rattle.device_registry.specs.Endpoints.{flow_number}
 use Rattle.session_manager.specs.declared.session.SessionKey.{SessionKey}
 use Rattle.session_manager.specs.Sessions.{joined, number_joined}
 use Rattle.ca_machine.specs.declared.state.Connection.{Connection}
 use Rattle.ca_machine.specs.State.{State}
 use Rattle.ca_machine.specs.Plan.{Plan}
-use Rattle.ca_machine.specs.Streams.{Opening, has_other_flag, initialize_plan, is_cross_process, is_faulty, is_kept, is_malformed, is_too_long, matches}
+use Rattle.ca_machine.specs.Streams.{Opening, has_loopback, has_other_flag, initialize_plan, is_cross_process, is_faulty, is_kept, is_malformed, is_too_long, matches}
 use Rattle.service_book.specs.declared.book.Book.{Book}
 use Rattle.service_book.specs.declared.opening.Opening.{Opening as Asked}
 use Rattle.service_book.specs.declared.opening.OpeningPlan.{OpeningPlan}
@@ -39,6 +41,10 @@ argument_rows x = (
 )
     ∷ []
 
+-- the endpoint records, and LOOPBACK asks for what it plays
+abbrev pub flow_rows : Flow → Opening → List (Row Hr)
+flow_rows flow x = (has_loopback x.flags && flow_number flow == FLOW_CAPTURE, hr.WRONG_ENDPOINT_TYPE) ∷ []
+
 -- the format isn't that of an endpoint with this one
 abbrev pub format_rows : Format → Opening → List (Row Hr)
 format_rows endpoint x =
@@ -51,6 +57,7 @@ pub record HasFormat (endpoint : Format) (x : Asked) (format : Format) : Type 0 
   pub spells : format ≡ spelled x.format.now
   pub valid : IsValid format
   pub channels : format.channels ≡ endpoint.channels
+  pub rate : format.rate ≡ endpoint.rate
 
 -- the table of an Initialize
 abbrev pub opening_plan : Asked → State → Plan

@@ -28,6 +28,6 @@ pub use endpoints::{
 pub use formats::support;
 pub use gains::gains_in;
 pub use leaving::{drop_client, drop_clients, drop_connection, drop_notices, is_live};
-pub use opening::{Opening, OpeningPlan, matches, shared_buffer, shared_period};
+pub use opening::{Opening, OpeningPlan, matches, shared_buffer, shared_period, words_stored};
 pub use services::{is_of_other_kind, is_service};
 pub use telling::{put_note, put_step};

@@ -1,19 +1,19 @@
 //! What an Initialize asks for, and what it opens (IAudioClient::Initialize).
 
-ghost use Rattle.std.specs.Prelude.{◌≡◌, ◌≤◌, ◌==◌, ◌||◌, true, IfOk};
+ghost use Rattle.std.specs.Prelude.{◌≡◌, ◌*◌, ◌≤◌, ◌==◌, ◌||◌, true, IfOk};
 ghost use Rattle.std.specs.Result.{result_err};
 ghost use Rattle.ca_base.specs.declared.limits.TheConstants.{MAX_STORE_WORDS};
 ghost use Rattle.ca_base.specs.Rows.{first};
 ghost use Rattle.wave_format.specs.Format.{frames_of_time, is_listed};
-ghost use Rattle.ca_machine.specs.Streams.{has_later_flag, has_other_flag, is_cross_process, is_kept, later_rows};
-ghost use Rattle.ca_machine.specs.Streams.{matches, shared_buffer};
-ghost use Rattle.service_book.specs.Openings.{HasFormat, argument_rows, arguments, format_rows, key_by};
+ghost use Rattle.ca_machine.specs.Streams.{has_later_flag, has_loopback, has_other_flag, is_cross_process, is_kept};
+ghost use Rattle.ca_machine.specs.Streams.{kind_opened, later_rows, matches, shared_buffer, words_stored};
+ghost use Rattle.service_book.specs.Openings.{HasFormat, argument_rows, arguments, flow_rows, format_rows, key_by};
 
 use ca_base::limits::{MAX_SHARED_BUFFER_SECONDS, MAX_TIME, SHARED_PERIOD};
 use ca_base::values::{
     SHARE_EXCLUSIVE, STREAM_CROSSPROCESS, STREAM_EVENTCALLBACK, STREAM_LOOPBACK, STREAM_NOPERSIST,
 };
-use ca_base::{ClientNo, ConnNo, EndpointNo, Guid, Hr, Text};
+use ca_base::{ClientNo, ConnNo, EndpointNo, Flow, Guid, Hr, StreamKind, Text};
 use ca_machine::Connection;
 use session_manager::SessionKey;
 use wave_format::{Format, frames_of, read_format};
@@ -46,8 +46,10 @@ pub struct OpeningPlan {
     /// The client's endpoint.
     pub endpoint: EndpointNo,
     pub format: Format,
-    /// The frames of the buffer, which are the words of its store.
+    pub kind: StreamKind,
+    /// The frames of the buffer, and the words of its store.
     pub buffer: u32,
+    pub words: u32,
     /// What names the session that the stream joins.
     pub key: SessionKey,
 }
@@ -56,7 +58,14 @@ pub struct OpeningPlan {
 fn has_later_flag(flags: u32) -> bool
     ensures { result ≡ has_later_flag flags }
 {
-    flags / STREAM_LOOPBACK % (2 * STREAM_EVENTCALLBACK / STREAM_LOOPBACK) != 0
+    flags / STREAM_EVENTCALLBACK % 2 != 0
+}
+
+/// Whether the stream records what its endpoint plays.
+fn has_loopback(flags: u32) -> bool
+    ensures { result ≡ has_loopback flags }
+{
+    flags / STREAM_LOOPBACK % 2 != 0
 }
 
 /// Whether processes share the session.
@@ -100,6 +109,21 @@ pub fn shared_period(rate: u32) -> u32
     frames_of(rate, SHARED_PERIOD) as u32
 }
 
+/// The words of the store of a stream of this kind, for a buffer and a period in frames.
+pub fn words_stored(kind: StreamKind, buffer: u32, period: u32) -> u32
+    requires some { 1 ≤ period }
+    requires whole { period ≤ buffer }
+    requires most { 2 * buffer ≤ MAX_STORE_WORDS }
+    ensures words { result ≡ words_stored kind buffer period }
+    ensures some { 1 ≤ result }
+    ensures most { result ≤ MAX_STORE_WORDS }
+{
+    match kind {
+        StreamKind::Render => buffer,
+        StreamKind::Capture | StreamKind::Loopback => buffer / period * (period + 1),
+    }
+}
+
 /// Whether formats have the same channels and rate.
 pub fn matches(a: &Format, b: &Format) -> bool
     ensures { result ≡ matches a.now b.now }
@@ -130,6 +154,32 @@ impl<'a> Opening<'a> {
             return Err(Hr::E_INVALIDARG);
         }
         Ok(())
+    }
+
+    /// Whether the flags fit an endpoint of this flow.
+    pub fn check_flow(&self, flow: Flow) -> Result<(), Hr>
+        ensures { first (flow_rows flow (arguments self.now)) ≡ result_err result }
+    {
+        if has_loopback(self.flags) && flow == Flow::Capture {
+            return Err(Hr::WRONG_ENDPOINT_TYPE);
+        }
+        Ok(())
+    }
+
+    /// The kind of stream that is opened on an endpoint of this flow.
+    pub fn kind_on(&self, flow: Flow) -> StreamKind
+        ensures { result ≡ kind_opened flow self.now.flags }
+    {
+        match flow {
+            Flow::Capture => StreamKind::Capture,
+            Flow::Render => {
+                if has_loopback(self.flags) {
+                    StreamKind::Loopback
+                } else {
+                    StreamKind::Render
+                }
+            }
+        }
     }
 
     /// The format, which is to be the endpoint's.

@@ -55,7 +55,7 @@ module _ {D F : Type 0} (faults : D → ℕ) (told : D → Option (List DeviceLo
     pub board_goes : (before : Tally) → Goes faults told kept plan result payload before old new
     board_goes before =
         core_goes faults told kept moves exact None known old new plan result payload before does core.order.order
-        new_order.order keeps knows tt
+        new_order.order keeps knows tt core.sides
 
     pub board_core : IsCore state kept new
     board_core = record {

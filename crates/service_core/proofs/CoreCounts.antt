@@ -1,5 +1,6 @@
 -- From the step of the machine on the state of both ends to the tally that goes with it.
-use Rattle.std.proofs.Common.{◌≡◌, ℕ, ◌-◌, ◌++◌, List, [], ◌∷◌, Bool, true, false, Option, Ok, sym, ap}
+use Rattle.std.proofs.Common.{◌≡◌, ℕ, ◌-◌, ◌++◌, ◌&&◌, List, [], ◌∷◌, length, Bool, true, false, Option, Ok, refl, sym}
+use Rattle.std.proofs.Common.{ap}
 use Rattle.std.proofs.Common.{subst, ◌∙◌, sum_by, if◌then◌else◌}
 use Rattle.std.specs.Int.{w32, to_le_bytes}
 use Rattle.std.proofs.lemmas.List.{length-map}
@@ -8,11 +9,13 @@ use Rattle.wave_format.specs.Frame.{frame_of}
 use Rattle.ca_base.specs.declared.codes.Hr.{Hr}
 use Rattle.buffer_ring.specs.declared.step.EndState.{EndState}
 use Rattle.buffer_ring.specs.Kept.{Kept, state_of}
-use Rattle.ca_stage.specs.Stage.{is_open_gate}
+use Rattle.ca_stage.specs.Stage.{is_open_gate, is_render}
+use Rattle.client_state.specs.Frames.{frames_in}
 use Rattle.ca_stage.specs.Tally.{Tally}
 use Rattle.ca_machine.specs.State.{State}
 use Rattle.ca_machine.specs.Plan.{Answer, Plan, outcome_of}
 use Rattle.ca_machine.specs.View.{AnswersBy, outside}
+use Rattle.period_engine.specs.declared.entry.StreamEntry.{StreamEntry}
 use Rattle.period_engine.specs.Entries.{AreInOrder}
 use Rattle.reply_payload.specs.declared.payload.Payload.TheVariants as payload_is
 use Rattle.service_board.specs.declared.board.Board.{Board}
@@ -29,10 +32,17 @@ use Rattle.service_core.proofs.PendingWords.{around_state, sums}
 pub pending_is : {D F : Type 0} (kept : F → Kept) (b : Board D (BothEnds F)) (tally : Tally) →
     AreInOrder b.entries.items →
     sum_by (words_in kept streams.Open) b.entries.items ≡ open_padding (core_state kept tally b).stage
-pending_is kept b tally order =
-    sums kept (words_in kept streams.Open) open_pads
-    (λ e. ap (λ n. if is_open_gate e.gate then n else 0)
-    (sym (length-map (kept e.store.store).words (frame_of e.channels)))) b.entries.items order
+pending_is {F = F} kept b tally order =
+    sums kept (words_in kept streams.Open) open_pads (λ e. each e (is_render e.kind) (is_open_gate e.gate))
+    b.entries.items order
+  where
+    each : (e : StreamEntry (BothEnds F)) (plays opens : Bool) →
+        (if plays && opens then length (kept e.store.store).words else 0)
+        ≡ (if opens then length (if plays then frames_in e.channels (kept e.store.store).words else []) else 0)
+    each e true true = sym (length-map (kept e.store.store).words (frame_of e.channels))
+    each e true false = refl
+    each e false true = refl
+    each e false false = refl
 
 module _ {D F : Type 0} (faults : D → ℕ) (told : D → Option (List DeviceLog)) (kept : F → Kept) (plan : State → Plan)
     (result : Hr) (payload : List ℕ) (before : Tally) (old new : Board D (BothEnds F))

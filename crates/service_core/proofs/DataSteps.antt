@@ -187,14 +187,14 @@ module _ {D F : Type 0} (faults : D → ℕ) (told : D → Option (List DeviceLo
         refl)
 
     -- the call moves the stream, which is open
-    pub data_moved : (m : StreamMove) → first (data_rows call (Some (core_stream kept a))) ≡ None → a.gate ≡ gate.Open →
+    pub data_moved : (payload : List ℕ) (m : StreamMove) → first (data_rows call (Some (core_stream kept a))) ≡ None → a.gate ≡ gate.Open →
         core_stream kept b ≡ moved m (core_stream kept a) →
-        ((st : State) → outcome st (core_stream kept a) ≡ granted [] (of_client a.client.0 m ∷ []) st) →
-        Goes faults told kept the_plan hr.S_OK [] before old new
-    data_moved m own opens turned grants =
+        ((st : State) → outcome st (core_stream kept a) ≡ granted payload (of_client a.client.0 m ∷ []) st) →
+        Goes faults told kept the_plan hr.S_OK payload before old new
+    data_moved payload m own opens turned grants =
         let st = core_state kept before old in
-        let outcome_is = granted [] (of_client a.client.0 m ∷ []) st in
-        goes_by hr.S_OK [] outcome_is.after.tally outcome_is.after
+        let outcome_is = granted payload (of_client a.client.0 m ∷ []) st in
+        goes_by hr.S_OK payload outcome_is.after.tally outcome_is.after
         (state_changed (stream_after (of_client a.client.0 m)) leaves (turned ∙ sym moves_it) outcome_is.after.tally
         ∙ ap (λ heads. book_state old.book (record {
           playheads = heads;

@@ -10,8 +10,9 @@ use Rattle.ca_stage.specs.Order.{RisesFrom}
 use Rattle.ca_stage.proofs.Lists.{found_passes, all_both}
 use Rattle.ca_stage.proofs.Streams.{is_of}
 use Rattle.period_engine.specs.declared.entry.StreamEntry.{StreamEntry}
+use Rattle.period_engine.specs.Agreement.{layout_of}
 use Rattle.period_engine.specs.Entries.{AreInOrder, stream_of, streams_of}
-use Rattle.service_board.specs.Does.{store_at, channels_at}
+use Rattle.service_board.specs.Does.{layout_at, no_layout, store_at}
 use Rattle.service_board.specs.Lookups.{is_entry_of}
 use Rattle.service_core.specs.Core.{core_data, core_datas}
 use Rattle.service_core.specs.declared.both_ends.BothEnds.{BothEnds}
@@ -29,13 +30,13 @@ module _ {E : Type 0} where
       ≡ option_map (λ e. e.store) (cond b (Some e) (entry_at client entries)))
       [ true ↦ refl | false ↦ store_found client entries ]
 
-  pub channels_found : (client : ℕ) (entries : List (StreamEntry E)) →
-      channels_at client entries ≡ option_map_or (λ e. e.channels) (entry_at client entries) 0
-  channels_found client [] = refl
-  channels_found client (e ∷ entries) =
-      elim (eqb e.client.0 client) as (λ b. (if b then e.channels else channels_at client entries)
-      ≡ option_map_or (λ e. e.channels) (cond b (Some e) (entry_at client entries)) 0)
-      [ true ↦ refl | false ↦ channels_found client entries ]
+  pub layout_found : (client : ℕ) (entries : List (StreamEntry E)) →
+      layout_at client entries ≡ option_map_or layout_of (entry_at client entries) no_layout
+  layout_found client [] = refl
+  layout_found client (e ∷ entries) =
+      elim (eqb e.client.0 client) as (λ b. (if b then layout_of e else layout_at client entries)
+      ≡ option_map_or layout_of (cond b (Some e) (entry_at client entries)) no_layout)
+      [ true ↦ refl | false ↦ layout_found client entries ]
 
   pub stream_found : (datas : ℕ → BufferData) (client : ℕ) (entries : List (StreamEntry E)) →
       find (is_of client) (streams_of datas entries) ≡ option_map (stream_of datas) (entry_at client entries)

@@ -31,3 +31,7 @@ pub mod ApartNotes
 pub mod SettingSteps
 pub mod PeriodSteps
 pub mod TellingBoards
+pub mod PacketData
+pub mod PacketReads
+pub mod PacketPuts
+pub mod PacketCalls

@@ -149,7 +149,7 @@ module _ {F : Type 0} (kept : F → Kept) where
               around.looked order.rested;
           belong = each_looked (Belongs old.book old.seats.items)
               (λ a b looked here. belongs_kept old.book old.seats.items a b (same_but_store a b looked.same)
-              (λ opens. sym (ap (λ e. e.gate) looked.same) ∙ opens) (before a b looked) here)
+              (λ opens. sym (ap (λ e. e.gate) looked.same) ∙ opens) (before a b looked) (counted a b looked) here)
               old.entries.items new.entries.items around.looked order.belong;
           seats = order.seats;
           book = order.book;
@@ -160,3 +160,6 @@ module _ {F : Type 0} (kept : F → Kept) where
       where
         before : (a b : StreamEntry (BothEnds F)) → IsLooked kept a b → b.position ≤ a.position
         before a b looked = let same = ap (λ e. e.position) looked.same in omega (arith, same)
+
+        counted : (a b : StreamEntry (BothEnds F)) → IsLooked kept a b → b.ever ≤ a.ever
+        counted a b looked = let same = ap (λ e. e.ever) looked.same in omega (arith, same)

@@ -1,11 +1,13 @@
 -- A period is told if its device failed.
 use Rattle.std.proofs.Common.{◌≡◌, ℕ, ◌++◌, not, List, [], ◌∷◌, Bool, true, false, Option, Some, None, Result, Ok, Err}
-use Rattle.std.proofs.Common.{IfOk, refl, sym, ap, subst, if◌then◌else◌}
+use Rattle.std.proofs.Common.{IfOk, refl, sym, ap, subst, ◌∙◌, if◌then◌else◌}
 use Rattle.std.specs.Int.{w32, to_le_bytes}
 use Rattle.device_io.specs.DeviceLog.{DeviceLog}
 use Rattle.ca_base.specs.declared.codes.Hr.{Hr}
 use Rattle.ca_base.specs.declared.codes.TheConstants.Hr as hr
 use Rattle.ca_base.specs.declared.ids.EndpointNo.{EndpointNo}
+use Rattle.ca_base.specs.declared.ids.Flow.{Flow}
+use Rattle.ca_base.specs.declared.ids.Flow.TheVariants as flow
 use Rattle.ca_base.specs.Rows.{first}
 use Rattle.ca_model.specs.declared.event.Call.{Call}
 use Rattle.ca_model.specs.declared.event.Call.TheVariants as call
@@ -14,10 +16,10 @@ use Rattle.ca_model.specs.declared.event.Event.TheVariants as event
 use Rattle.device_registry.specs.declared.endpoint.Endpoint.{Endpoint}
 use Rattle.step_notices.specs.Notes.{Notes}
 use Rattle.ca_machine.specs.State.{State, endpoint_at}
-use Rattle.ca_machine.specs.Plan.{Answer, AreAnswers, Asked, asked_of, is_whole, outcome_of, refused}
+use Rattle.ca_machine.specs.Plan.{Answer, AreAnswers, Asked, Outcome, asked_of, bytes_given, is_whole, outcome_of, refused}
 use Rattle.ca_machine.specs.Plan.{unless_refused, unless_row}
 use Rattle.ca_machine.specs.Notices.{noted}
-use Rattle.ca_machine.specs.Periods.{mixing_of, period_of, period_plan, period_rows, sounding}
+use Rattle.ca_machine.specs.Periods.{frames_recorded, mixing_of, period_by, period_frames, period_of, period_payload, period_plan, period_rows, recording, sounding}
 use Rattle.ca_machine.specs.View.{MachineView}
 use Rattle.reply_payload.specs.Answers.{IsPeriod, code_of, payload_of}
 use Rattle.reply_payload.specs.declared.payload.Payload.{Payload}
@@ -69,33 +71,53 @@ module _ (st : State) (given : List Answer) where
   unasked None a = ap is_whole a
   unasked (Some code) a = ap is_whole a
 
-  -- an answer without bytes: no device failed
-  sounded_nothing : (d : Endpoint) (verdict : Option Hr) → AreAnswers (unless_row verdict (period_of st (Some d)).asks) given →
-      [] ≡ (unless_refused st verdict (sounding st (mixing_of st d) given)).payload → is_whole given ≡ true
-  sounded_nothing d None a e = absurd (some_bytes (mixing_of st d) (is_whole given) e)
-  sounded_nothing d (Some code) a e = ap is_whole a
+  -- an outcome whose payload is that of a period of so many frames
+  module _ (asks : Asked) (o : Outcome) (n : ℕ) (pays : o.payload ≡ period_payload n (is_whole given)) where
+    -- an answer without bytes: no device failed
+    none_failed : (verdict : Option Hr) → AreAnswers (unless_row verdict asks) given →
+        [] ≡ (unless_refused st verdict o).payload → is_whole given ≡ true
+    none_failed None a e = absurd (some_bytes n (is_whole given) (e ∙ pays))
+    none_failed (Some code) a e = ap is_whole a
+
+    -- an answer with bytes says whether it failed
+    says_failed : (verdict : Option Hr) (frames : ℕ) (failed : Bool) →
+        answer_bytes frames failed ≡ (unless_refused st verdict o).payload → failed ≡ not (is_whole given)
+    says_failed None frames failed e = last_byte n (is_whole given) failed frames (e ∙ pays)
+    says_failed (Some code) frames failed e = cc (ap (λ bytes. bytes) e)
+
+  -- by the endpoint's flow
+  flow_whole : (d : Endpoint) (f : Flow) → AreAnswers (asked_of (period_by st d f)) given →
+      [] ≡ (outcome_of st (period_by st d f) given).payload → is_whole given ≡ true
+  flow_whole d flow.Render a e =
+      none_failed (period_by st d flow.Render).asks (sounding st (mixing_of st d) given) (period_frames d) refl
+      (first (period_rows st d)) a e
+  flow_whole d flow.Capture a e =
+      none_failed (period_by st d flow.Capture).asks (recording st d given)
+      (frames_recorded d (bytes_given given)) refl (first (period_rows st d)) a e
+
+  flow_failed : (d : Endpoint) (f : Flow) (frames : ℕ) (failed : Bool) →
+      answer_bytes frames failed ≡ (outcome_of st (period_by st d f) given).payload → failed ≡ not (is_whole given)
+  flow_failed d flow.Render frames failed e =
+      says_failed (period_by st d flow.Render).asks (sounding st (mixing_of st d) given) (period_frames d) refl
+      (first (period_rows st d)) frames failed e
+  flow_failed d flow.Capture frames failed e =
+      says_failed (period_by st d flow.Capture).asks (recording st d given)
+      (frames_recorded d (bytes_given given)) refl (first (period_rows st d)) frames failed e
 
   nothing_whole : (o : Option Endpoint) → AreAnswers (asked_of (period_of st o)) given →
       [] ≡ (outcome_of st (period_of st o) given).payload → is_whole given ≡ true
   nothing_whole None a e = unasked (first (period_of st None).rows) a
-  nothing_whole (Some d) a e = sounded_nothing d (first (period_rows st d)) a e
+  nothing_whole (Some d) a e = flow_whole d d.flow a e
 
-  -- an answer with bytes says whether it failed
   refused_bytes : (verdict : Option Hr) (frames : ℕ) (failed : Bool) →
       answer_bytes frames failed ≡ (unless_refused st verdict (refused st hr.E_NOTFOUND)).payload → ⊥
   refused_bytes None frames failed e = cc (ap (λ bytes. bytes) e)
   refused_bytes (Some code) frames failed e = cc (ap (λ bytes. bytes) e)
 
-  sounded_failed : (d : Endpoint) (verdict : Option Hr) (frames : ℕ) (failed : Bool) →
-      answer_bytes frames failed ≡ (unless_refused st verdict (sounding st (mixing_of st d) given)).payload →
-      failed ≡ not (is_whole given)
-  sounded_failed d None frames failed e = last_byte (mixing_of st d) (is_whole given) failed frames e
-  sounded_failed d (Some code) frames failed e = cc (ap (λ bytes. bytes) e)
-
   bytes_failed : (o : Option Endpoint) (frames : ℕ) (failed : Bool) →
       answer_bytes frames failed ≡ (outcome_of st (period_of st o) given).payload → failed ≡ not (is_whole given)
   bytes_failed None frames failed e = absurd (refused_bytes (first (period_of st None).rows) frames failed e)
-  bytes_failed (Some d) frames failed e = sounded_failed d (first (period_rows st d)) frames failed e
+  bytes_failed (Some d) frames failed e = flow_failed d d.flow frames failed e
 
 -- ---- its step
 

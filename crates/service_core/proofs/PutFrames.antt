@@ -1,78 +1,14 @@
 -- Frames that go into a store of words.
-use Rattle.std.proofs.Common.{◌≡◌, ℕ, suc, ◌+◌, ◌-◌, ◌*◌, ◌<◌, ◌≤◌, List, [], ◌∷◌, ◌++◌, length, map, take, drop, zero, refl, sym, ap, subst, ◌∙◌, append_assoc, arith, inl, inr, ℤ, replicate}
-use Rattle.std.proofs.lemmas.List.{length-append, length-take, length-take-le, map-append, get_or-drop, get_or-take, get_or_past, take-take, drop-take, drop-drop, replicate-append-replicate}
-use Rattle.std.proofs.lemmas.Bool.{cases_lt}
-use Rattle.wave_format.specs.Frame.{frame_of, frame_bytes, frame_from, frames_from, word_of, IsFrame, AreBytes}
+use Rattle.std.proofs.Common.{◌≡◌, ℕ, ◌+◌, ◌-◌, ◌*◌, ◌≤◌, List, ◌++◌, length, map, take, drop, ℤ, replicate}
+use Rattle.std.proofs.Common.{sym, ap, ◌∙◌, append_assoc, arith}
+use Rattle.std.proofs.lemmas.List.{length-append, map-append, replicate-append-replicate}
+use Rattle.wave_format.specs.Frame.{frame_of, frames_from}
+use Rattle.wave_format.proofs.FrameCuts.{frames_split}
 use Rattle.ca_base.specs.declared.ids.Gate.TheVariants as gate
 use Rattle.ca_base.specs.declared.ids.Reason.{Reason}
 use Rattle.buffer_ring.specs.declared.stores.Put.{Put}
 use Rattle.buffer_ring.specs.declared.stores.Put.TheVariants as put
 use Rattle.buffer_ring.specs.Kept.{Kept, PutsWords}
-use Rattle.service_core.specs.Putting.{IsBlock}
-
-AreBytes-take : (n : ℕ) (bytes : List ℕ) → AreBytes bytes → AreBytes (take n bytes)
-AreBytes-take n bytes h i =
-    elim (cases_lt i n) [
-      | inl lt ↦ rw (get_or-take n bytes i 0 lt) (h i)
-      | inr le ↦ rw (get_or_past (take n bytes) i 0 (omega (arith, length-take n bytes))) (omega arith)
-    ]
-
-pub AreBytes-drop : (n : ℕ) (bytes : List ℕ) → AreBytes bytes → AreBytes (drop n bytes)
-AreBytes-drop n bytes h i = rw get_or-drop (h (n + i))
-
--- one frame more goes in: it is the first of those that are left
-pub goes_in : (channels n k : ℕ) (items : List ℕ) (word : ℕ) (rest after : List ℕ) (all : List (List ℤ)) → k < n
-    → frame_of channels word ≡ frame_from (take (channels * 2) rest) → after ≡ drop (channels * 2) rest
-    → map (frame_of channels) items ++ frames_from (n - k) channels rest ≡ all
-    → map (frame_of channels) (items ++ word ∷ []) ++ frames_from (n - (k + 1)) channels after ≡ all
-goes_in channels n k items word rest after all lt is after-is so_far =
-    let count : n - k ≡ suc (n - (k + 1)) = omega arith in
-    let split : frames_from (n - k) channels rest ≡ frame_of channels word ∷ frames_from (n - (k + 1)) channels after =
-    rw (count, is, after-is) refl in
-    let joined : map (frame_of channels) (items ++ word ∷ []) ++ frames_from (n - (k + 1)) channels after
-    ≡ map (frame_of channels) items
-    ++ (frame_of channels word ∷ frames_from (n - (k + 1)) channels after) =
-    rw map-append
-    (append_assoc (map (frame_of channels) items) (frame_of channels word ∷ [])
-    (frames_from (n - (k + 1)) channels after)) in
-    joined ∙ ap (λ (fs : List (List ℤ)). map (frame_of channels) items ++ fs) (sym split) ∙ so_far
-
--- the word of a frame's bytes holds the frame
-pub holds : (channels block : ℕ) (rest frame : List ℕ) (word : ℕ) → IsBlock block → block ≡ channels * 2 →
-    block ≤ length rest → AreBytes rest
-    → frame ≡ take block rest → word ≡ word_of (frame_from frame)
-    → ((n : ℕ) (bytes : List ℕ) → AreBytes bytes → length bytes ≡ n * 2 →
-    IsFrame n (frame_from bytes) × (frame_bytes (frame_from bytes) ≡ bytes))
-    → ((n : ℕ) (samples : List ℤ) → IsFrame n samples → frame_of n (word_of samples) ≡ samples)
-    → frame_of channels word ≡ frame_from (take (channels * 2) rest)
-holds channels block rest frame word kind is fits bytes frame-is word-is reads packs =
-    let here : frame ≡ take (channels * 2) rest = frame-is ∙ ap (λ (n : ℕ). take n rest) is in
-    let below : AreBytes frame = subst AreBytes (sym frame-is) (AreBytes-take block rest bytes) in
-    let size : length frame ≡ channels * 2 =
-    ap (λ (xs : List ℕ). length xs) frame-is ∙ length-take-le block rest fits ∙ is in
-    ap (frame_of channels) word-is ∙ packs channels (frame_from frame) (reads channels frame below size).0
-    ∙ ap frame_from here
-
--- frames of bytes are those of the front and those of the rest
-pub frames_split : (a b channels : ℕ) (bytes : List ℕ) → frames_from (a + b) channels bytes
-    ≡ frames_from a channels (take (a * (channels * 2)) bytes)
-    ++ frames_from b channels (drop (a * (channels * 2)) bytes)
-frames_split zero b channels bytes =
-    let none : 0 * (channels * 2) ≡ 0 = grind arith in
-    let count : 0 + b ≡ b = omega arith in
-    rw (none, count) refl
-frames_split (suc a) b channels bytes =
-    let count : suc a + b ≡ suc (a + b) = omega arith in
-    let more : suc a * (channels * 2) ≡ channels * 2 + a * (channels * 2) = grind arith in
-    rw (
-      count,
-      more,
-      take-take (channels * 2) (channels * 2 + a * (channels * 2)) bytes (omega arith),
-      drop-take (channels * 2) (a * (channels * 2)) bytes,
-      sym (drop-drop (a * (channels * 2)) (channels * 2) bytes),
-    ) (
-    ap (λ (fs : List (List ℤ)). frame_from (take (channels * 2) bytes) ∷ fs)
-    (frames_split a b channels (drop (channels * 2) bytes)))
 
 -- more frames go in: they are the first of those that are left
 pub batch_goes_in : (channels left count block : ℕ) (items batch rest now after : List ℕ) (all : List (List ℤ)) →
@@ -92,14 +28,6 @@ batch_goes_in channels left count block items batch rest now after all le is now
     rw (map-append, batch-is)
     (append_assoc (f items) (frames_from count channels now) (frames_from (left - count) channels after))
     ∙ ap (λ (fs : List (List ℤ)). f items ++ fs) (sym split) ∙ so_far
-
--- the bytes of one frame fewer are left
-pub one_less : (n k block left after : ℕ) → k < n → left ≡ (n - k) * block → after + block ≡ left →
-    (block ≤ left) × (after ≡ (n - (k + 1)) * block)
-one_less n k block left after lt is cut =
-    let m : n - k ≡ (n - (k + 1)) + 1 = omega arith in
-    let all : left ≡ (n - (k + 1)) * block + block = is ∙ ap (λ (j : ℕ). j * block) m ∙ grind arith in
-    (omega arith, omega arith)
 
 -- a store to which some of `count` words were put, and `left` of them weren't yet
 pub record IsFilling (left count : ℕ) (old new : Kept) : Type 0 where

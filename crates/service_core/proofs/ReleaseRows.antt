@@ -1,9 +1,9 @@
--- What the rows of a ReleaseBuffer leave, and that a size beyond all frames stands for any other such size.
-use Rattle.std.proofs.Common.{◌≡◌, ◌≢◌, ℕ, ◌+◌, ◌-◌, ◌*◌, ◌/◌, ◌<◌, ◌≤◌, ◌==◌, ◌&&◌, ◌||◌, not, nat_lt, min, [], ◌∷◌}
+-- What the rows of data calls leave, and that a size beyond all frames stands for any other such size.
+use Rattle.std.proofs.Common.{◌≡◌, ◌≢◌, ℕ, zero, suc, ◌+◌, ◌-◌, ◌*◌, ◌/◌, ◌<◌, ◌≤◌, ◌==◌, ◌&&◌, ◌||◌, not, nat_lt, min, [], ◌∷◌}
 use Rattle.std.proofs.Common.{length, Bool, true, false, Option, Some, None, IfSome, is_none, is_some, refl, sym, ap}
 use Rattle.std.proofs.Common.{ap₂, ◌∙◌, arith, if◌then◌else◌, eqb, eqb-true}
 use Rattle.std.proofs.Math.Nat.{mul-le-mul_left}
-use Rattle.std.proofs.lemmas.Bool.{or_parts}
+use Rattle.std.proofs.lemmas.Bool.{or_parts, true≢false}
 use Rattle.std.proofs.lemmas.Option.{none-some}
 use Rattle.std.proofs.lemmas.Bool.Decides.{nat_tests}
 use Rattle.ca_base.specs.declared.codes.Hr.{Hr}
@@ -11,6 +11,8 @@ use Rattle.ca_base.specs.declared.codes.TheConstants.Hr as hr
 use Rattle.ca_base.specs.declared.ids.Gate.{Gate}
 use Rattle.ca_base.specs.declared.ids.Gate.TheVariants as gate
 use Rattle.ca_base.specs.declared.ids.Seen.{Seen}
+use Rattle.ca_base.specs.declared.ids.StreamKind.{StreamKind}
+use Rattle.ca_base.specs.declared.ids.StreamKind.TheVariants as kind
 use Rattle.ca_base.specs.declared.limits.TheConstants.{MAX_COUNT, MAX_STORE_WORDS}
 use Rattle.ca_base.specs.declared.values.TheConstants.{BUFFER_SILENT}
 use Rattle.ca_base.specs.Rows.{first}
@@ -18,6 +20,8 @@ use Rattle.client_state.specs.declared.check.DataCall.TheVariants as data_call
 use Rattle.client_state.specs.declared.side.ClientSide.{ClientSide}
 use Rattle.client_state.specs.Rows.{has_wrong_size, is_closed, is_lease_below, is_render, is_shut_down, padding_of, side_rows}
 use Rattle.buffer_ring.specs.Kept.{Kept}
+use Rattle.ca_stage.specs.Stage.{is_render as renders_kind}
+use Rattle.ca_machine.specs.Data.{dir_of}
 use Rattle.period_engine.specs.declared.entry.StreamEntry.{StreamEntry}
 use Rattle.service_core.specs.Core.{HasSide, seen_in}
 use Rattle.service_core.specs.declared.both_ends.BothEnds.{BothEnds}
@@ -38,14 +42,15 @@ verdict fresh shut closed other unleased below wrong worn = first (
     ∷ [])
 
 same_verdict : (fresh shut closed other unleased below wrong wrong' worn : Bool) →
-    (unleased ≡ false → below ≡ false → wrong ≡ wrong') →
+    (other ≡ false → unleased ≡ false → below ≡ false → wrong ≡ wrong') →
     verdict fresh shut closed other unleased below wrong worn ≡ verdict fresh shut closed other unleased below wrong'
     worn
 unfolding verdict
-same_verdict fresh shut closed other true below wrong wrong' worn h = refl
-same_verdict fresh shut closed other false true wrong wrong' worn h = refl
-same_verdict fresh shut closed other false false wrong wrong' worn h =
-    ap (λ w. verdict fresh shut closed other false false w worn) (h refl refl)
+same_verdict fresh shut closed true unleased below wrong wrong' worn h = refl
+same_verdict fresh shut closed false true below wrong wrong' worn h = refl
+same_verdict fresh shut closed false false true wrong wrong' worn h = refl
+same_verdict fresh shut closed false false false wrong wrong' worn h =
+    ap (λ w. verdict fresh shut closed false false false w worn) (h refl refl refl)
 
 same_test : (size x most : ℕ) → x < most → eqb (min size most) x ≡ eqb size x
 same_test size x most lt = grind (arith, nat_tests)
@@ -58,7 +63,7 @@ not_less : (n m : ℕ) → nat_lt n m ≡ false → m ≤ n
 not_less n m h = grind (arith, nat_tests)
 
 pub size_stands : (side : ClientSide) (frames flags size : ℕ) (seen : Seen) →
-    IfSome side.lease (λ n. n ≤ MAX_STORE_WORDS) → side.block ≤ 8 →
+    (not (is_render side.dir) ≡ false → IfSome side.lease (λ n. n ≤ MAX_STORE_WORDS)) → side.block ≤ 8 →
     first (side_rows side (data_call.Release frames flags (min size 4294967295)) seen)
     ≡ first (side_rows side (data_call.Release frames flags size) seen)
 unfolding verdict
@@ -67,9 +72,9 @@ size_stands side frames flags size seen small narrow =
     (is_none side.lease) (is_lease_below frames side.lease)
     (has_wrong_size side frames flags (min size 4294967295)) (has_wrong_size side frames flags size)
     (nat_lt (MAX_COUNT - frames) side.released)
-    (λ leased fits. ap₂
+    (λ plays leased fits. ap₂
     (λ a b. not (flags == 0 || flags == BUFFER_SILENT) || not (a || flags == BUFFER_SILENT && b))
-    (same_test size (frames * side.block) 4294967295 (fits_in side.lease leased fits small))
+    (same_test size (frames * side.block) 4294967295 (fits_in side.lease leased fits (small plays)))
     (same_test size 0 4294967295 (omega arith)))
   where
     fits_in : (lease : Option ℕ) → is_none lease ≡ false → is_lease_below frames lease ≡ false →
@@ -79,15 +84,20 @@ size_stands side frames flags size seen small narrow =
 
 -- ---- what passes
 
--- no row refused: the gate is open, enough is leased, the data have the size of the frames unless they are silent, and
+-- no row refused: the stream plays, the gate is open, enough is leased, the data have the size of the frames unless they are silent, and
 -- the count stays in range
 pub record PassesRelease (side : ClientSide) (frames flags size : ℕ) (seen : Seen) : Type 0 where
+  pub plays : is_render side.dir ≡ true
   pub opens : seen.gate ≡ gate.Open
   pub lease : ℕ
   pub leased : side.lease ≡ Some lease
   pub enough : frames ≤ lease
   pub fits : flags ≢ BUFFER_SILENT → size ≡ frames * side.block
   pub counts : side.released + frames ≤ MAX_COUNT
+
+is_true : (b : Bool) → not b ≡ false → b ≡ true
+is_true true h = refl
+is_true false h = cc
 
 -- a row that doesn't hold, and the rows behind it
 no_row : (b : Bool) (code : Hr) (rest : Option Hr) → (if b then Some code else rest) ≡ None →
@@ -136,6 +146,7 @@ release_passes side frames flags size seen few h =
     let k = no_row (nat_lt (MAX_COUNT - frames) side.released) hr.WORN _ g.1 in
     let lease = has_lease frames side.lease e.0 f.0 in
     record {
+      plays = is_true (is_render side.dir) d.0;
       opens = open_gate seen.gate c.0;
       lease = lease.0;
       leased = lease.1;
@@ -169,10 +180,70 @@ get_passes side n seen h =
     fits true t h = h
     fits false t h = cc
 
+-- a packet is leased where the stream records, no lease is there, and there is some packet
+pub record PassesPacket (side : ClientSide) (seen : Seen) : Type 0 where
+  pub records : is_render side.dir ≡ false
+  pub opens : seen.gate ≡ gate.Open
+  pub some : 1 ≤ seen.words / (side.period + 1)
+
+pub packet_passes : (side : ClientSide) (seen : Seen) → first (side_rows side data_call.CaptureGet seen) ≡ None →
+    PassesPacket side seen
+packet_passes side seen h =
+    let a = no_row (side.buffer == 0) hr.NOT_INITIALIZED _ h in
+    let b = no_row (is_shut_down seen.gate) hr.SERVICE_NOT_RUNNING _ a.1 in
+    let c = no_row (is_closed seen.gate) hr.DEVICE_INVALIDATED _ b.1 in
+    let d = no_row (is_render side.dir) hr.WRONG_ENDPOINT_TYPE _ c.1 in
+    let e = no_row (is_some side.lease) hr.OUT_OF_ORDER _ d.1 in
+    let f = no_row (padding_of side seen.words == 0) hr.S_BUFFER_EMPTY _ e.1 in
+    record {
+      records = d.0;
+      opens = open_gate seen.gate c.0;
+      some = some_packet (seen.words / (side.period + 1)) side.period
+          (sym (ap (λ b. (if b then seen.words else seen.words / (side.period + 1) * side.period) == 0) d.0) ∙ f.0);
+    }
+  where
+    some_packet : (n period : ℕ) → (n * period == 0) ≡ false → 1 ≤ n
+    some_packet zero period h =
+        let none : 0 * period ≡ 0 = omega arith in absurd (true≢false (sym (ap (λ n. n == 0) none) ∙ h))
+    some_packet (suc n) period h = omega arith
+
+-- a packet is released where the stream records, and none or all of its frames are
+pub record PassesRead (side : ClientSide) (seen : Seen) : Type 0 where
+  pub records : is_render side.dir ≡ false
+  pub opens : seen.gate ≡ gate.Open
+
+pub read_passes : (side : ClientSide) (frames : ℕ) (seen : Seen) →
+    first (side_rows side (data_call.CaptureRelease frames) seen) ≡ None → PassesRead side seen
+read_passes side frames seen h =
+    let a = no_row (side.buffer == 0) hr.NOT_INITIALIZED _ h in
+    let b = no_row (is_shut_down seen.gate) hr.SERVICE_NOT_RUNNING _ a.1 in
+    let c = no_row (is_closed seen.gate) hr.DEVICE_INVALIDATED _ b.1 in
+    let d = no_row (is_render side.dir) hr.WRONG_ENDPOINT_TYPE _ c.1 in
+    record { records = d.0; opens = open_gate seen.gate c.0 }
+
+-- the size of the next packet is asked where the stream records
+pub next_passes : (side : ClientSide) (seen : Seen) → first (side_rows side data_call.NextSize seen) ≡ None →
+    is_render side.dir ≡ false
+next_passes side seen h =
+    let a = no_row (side.buffer == 0) hr.NOT_INITIALIZED _ h in
+    let b = no_row (is_shut_down seen.gate) hr.SERVICE_NOT_RUNNING _ a.1 in
+    let c = no_row (is_closed seen.gate) hr.DEVICE_INVALIDATED _ b.1 in
+    (no_row (is_render side.dir) hr.WRONG_ENDPOINT_TYPE _ c.1).0
+
 -- ---- on an entry
+
+-- the side of a stream that plays has that way
+pub way_of : (k : StreamKind) → is_render (dir_of k) ≡ renders_kind k
+way_of kind.Render = refl
+way_of kind.Capture = refl
+way_of kind.Loopback = refl
 
 module _ {F : Type 0} (kept : F → Kept) (e : StreamEntry (BothEnds F)) (has : HasSide kept e) (few : e.channels ≤ 4)
   where
+    -- the way of the client's side is that of the stream's kind
+    pub side_way : is_render e.store.side.dir ≡ renders_kind e.kind
+    side_way = ap (λ side. is_render side.dir) has.side ∙ way_of e.kind
+
     small_lease : (lease : Option ℕ) (words room : ℕ) → IfSome lease (λ n. n ≤ room - words) → room ≤ MAX_STORE_WORDS →
         IfSome lease (λ n. n ≤ MAX_STORE_WORDS)
     small_lease None words room fits small = tt
@@ -189,4 +260,5 @@ module _ {F : Type 0} (kept : F → Kept) (e : StreamEntry (BothEnds F)) (has : 
         let narrow : e.store.side.block ≤ 8 = omega (arith, block_is, few) in
         ap (λ n. first (side_rows e.store.side (data_call.Release frames flags n) (seen_in (kept e.store.store)))) is
         ∙ size_stands e.store.side frames flags size (seen_in (kept e.store.store))
-        (small_lease e.store.side.lease (length (kept e.store.store).words) e.room has.room has.small) narrow
+        (λ plays. small_lease e.store.side.lease (length (kept e.store.store).words) e.room
+        (has.room (sym side_way ∙ is_true (is_render e.store.side.dir) plays)) has.small) narrow

@@ -5,7 +5,7 @@ use Rattle.std.specs.List.{AllByRecursion}
 use Rattle.std.proofs.lemmas.Bool.{true≢false}
 use Rattle.std.proofs.lemmas.Option.{same_Some}
 use Rattle.ca_stage.specs.Stage.{Stream, Stage, padding}
-use Rattle.ca_stage.specs.Moves.{StreamMove, leased, released, started, stopped, reset, closed, picked, retired, Move, added, opened, of_client, sounded, finished, moved, as_opened, is_open_of, stream_after, after_move, after_moves, stream_at}
+use Rattle.ca_stage.specs.Moves.{StreamMove, leased, released, read, started, stopped, reset, closed, picked, retired, fed, Move, added, opened, of_client, sounded, finished, captured, moved, as_opened, is_open_of, stream_after, after_move, after_moves, stream_at}
 use Rattle.ca_stage.specs.Order.{is_among}
 use Rattle.ca_stage.specs.Present.{present}
 use Rattle.ca_stage.proofs.Lists.{chosen, chosen_by, all_found, found_passes}
@@ -27,6 +27,7 @@ fell_twice s t u first next =
 abbrev pub IsStreamControl : StreamMove → Type 0
 IsStreamControl (leased n) = ⊥
 IsStreamControl (released frames) = ⊥
+IsStreamControl (read n) = ⊥
 IsStreamControl _ = Unit {0}
 
 abbrev pub IsControl : Move → Type 0
@@ -36,10 +37,12 @@ IsControl _ = Unit {0}
 fell_move : (m : StreamMove) (s : Stream) → IsStreamControl m → Fell s (moved m s)
 fell_move (leased n) s h = absurd h
 fell_move (released frames) s h = absurd h
+fell_move (read n) s h = absurd h
 fell_move started s h = record { opened = refl; fewer = omega arith }
 fell_move stopped s h = record { opened = refl; fewer = omega arith }
 fell_move reset s h = record { opened = refl; fewer = omega arith }
 fell_move (closed reason) s h = record { opened = refl; fewer = omega arith }
+fell_move (fed frames) s h = record { opened = refl; fewer = omega arith }
 fell_move (picked n) s h = record { opened = refl; fewer = omega arith }
 fell_move retired s h = record { opened = refl; fewer = simp length-drop (omega arith) }
 
@@ -50,6 +53,7 @@ fell_after (added number) s h = fell_still s
 fell_after (opened new) s h = fell_still s
 fell_after (sounded m whole) s h = fell_still s
 fell_after (finished m whole) s h = fell_still s
+fell_after (captured number frames) s h = fell_still s
 
 -- in both stages the streams of each client that has one in both went on so
 abbrev pub AllFell : Stage → Stage → Type 0

@@ -7,9 +7,16 @@ use Rattle.std.proofs.lemmas.List.Sums.{sum_by-cons}
 use Rattle.ca_base.specs.declared.ids.Reason.{Reason}
 use Rattle.ca_base.specs.declared.ids.Reason.TheVariants.{Removal}
 use Rattle.ca_base.specs.declared.limits.TheConstants.{MAX_TALLY}
-use Rattle.ca_stage.specs.Stage.{Stream, Stage, padding, is_open}
+use Rattle.ca_stage.specs.Stage.{Frame, Stream, Stage, padding, is_open}
 use Rattle.ca_stage.specs.Moves.{StreamMove, reset, closed, picked, retired, Move, of_client, Mixing, after_moves}
-use Rattle.ca_stage.specs.Moves.{failed, is_open_on, is_playing, moved, played, sub_steps}
+use Rattle.ca_stage.specs.Moves.{moved}
+use Rattle.ca_stage.specs.Mix.{mixed}
+use Rattle.ca_stage.specs.Periods.{failed, fed_if, is_hearing, is_open_on, is_playing, is_recording, picked_on, played, sub_steps}
+use Rattle.ca_stage.specs.Given.{whole_frames}
+use Rattle.device_registry.specs.declared.endpoint.Endpoint.{Endpoint}
+use Rattle.ca_machine.specs.Periods.{recording_moves}
+use Rattle.ca_machine.proofs.RecordedStage.{fed_by, frames_of, lost_on, recorded_stage, tally_lost, tally_recorded}
+use Rattle.ca_stage.proofs.Feeds.{fed_if_keeps}
 use Rattle.ca_stage.specs.Order.{clients, is_among, RisesFrom}
 use Rattle.ca_stage.specs.Present.{present, AreGone, IsGone}
 use Rattle.ca_stage.specs.Tally.{Tally, counted, tally_after}
@@ -88,12 +95,17 @@ reset_counts n st t r l =
 
 -- ---- a period
 
-played_falls : (m : Mixing) (s : Stream) →
-    open_pads (played m s) + amount_where (is_playing m.endpoint) (λ s. min m.frames (padding s)) s ≡ open_pads s
-played_falls m s = go (is_playing m.endpoint s) refl
+-- a stream that is offered a packet has as many frames pending
+fed_pads : (test : Stream → Bool) (frames : List Frame) (s : Stream) → open_pads (fed_if test frames s) ≡ open_pads s
+fed_pads test frames s = fed_if_keeps open_pads test frames s refl
+
+played_falls : (m : Mixing) (frames : List Frame) (s : Stream) →
+    open_pads (played m frames s) + amount_where (is_playing m.endpoint) (λ s. min m.frames (padding s)) s ≡ open_pads s
+played_falls m frames s = go (is_playing m.endpoint s) refl
   where
     go : (b : Bool) → is_playing m.endpoint s ≡ b →
-        open_pads (if b then moved retired (moved (picked m.frames) s) else s)
+        open_pads (if b then moved retired (moved (picked m.frames) s)
+        else fed_if (is_hearing m.endpoint) frames s)
         + (if b then min m.frames (padding s) else 0) ≡ open_pads s
     go true t =
         let opens : is_open s ≡ true =
@@ -103,7 +115,7 @@ played_falls m s = go (is_playing m.endpoint s) refl
         ap (λ b. if b then padding (moved retired (moved (picked m.frames) s)) else 0) opens
         ∙ length-drop (min m.frames (padding s)) s.buffer_data.pending in
         omega (arith, here, later)
-    go false t = omega arith
+    go false t = let same = fed_pads (is_hearing m.endpoint) frames s in omega (arith, same)
 
 failed_falls : (m : Mixing) (s : Stream) →
     open_pads (failed m s) + amount_where (is_open_on m.endpoint) padding s ≡ open_pads s
@@ -118,8 +130,9 @@ pub whole_counts : (m : Mixing) (st : Stage) (t : Tally) → RisesFrom 0 (client
 whole_counts m st t r l =
     tally_of_whole m st r t l
     ∙ ap (λ k. record t { rendered = counted t.rendered k })
-    (fall_by (played m) (amount_where (is_playing m.endpoint) (λ s. min m.frames (padding s))) (played_falls m)
-    st.streams
+    (fall_by (played m (mixed m (map (picked_on m) st.streams)))
+    (amount_where (is_playing m.endpoint) (λ s. min m.frames (padding s)))
+    (played_falls m (mixed m (map (picked_on m) st.streams))) st.streams
     ∙ ap (λ after. open_padding st - open_padding after) (sym (period_by m st r true)))
 
 pub failed_counts : (m : Mixing) (st : Stage) (t : Tally) → RisesFrom 0 (clients st) → t.dropped ≤ MAX_TALLY →
@@ -131,6 +144,46 @@ failed_counts m st t r l =
     ∙ ap (λ k. record t { dropped = counted t.dropped k })
     (fall_by (failed m) (amount_where (is_open_on m.endpoint) padding) (failed_falls m) st.streams
     ∙ ap (λ after. open_padding st - open_padding after) (sym (period_by m st r false)))
+
+-- ---- a period of an endpoint that captures
+
+fed_falls : (e : Endpoint) (bytes : List ℕ) (s : Stream) → open_pads (fed_by e bytes s) ≡ open_pads s
+fed_falls e bytes s = by (whole_frames e.format.channels bytes == 0)
+  where
+    by : (b : Bool) → open_pads (if b then s else fed_if (is_recording e.no.0) (frames_of e bytes) s) ≡ open_pads s
+    by true = refl
+    by false = fed_pads (is_recording e.no.0) (frames_of e bytes) s
+
+-- what it offers takes nothing from what is pending
+pub recorded_counts : (e : Endpoint) (bytes : List ℕ) (st : Stage) (t : Tally) → RisesFrom 0 (clients st) →
+    t.rendered ≤ MAX_TALLY → tally_after t st (recording_moves e bytes true st) ≡ record t {
+      rendered =
+          counted t.rendered (open_padding st - open_padding (after_moves st (recording_moves e bytes true st)));
+    }
+recorded_counts e bytes st t r l =
+    let same : open_padding (after_moves st (recording_moves e bytes true st)) ≡ open_padding st =
+    ap open_padding (recorded_stage e bytes st r true)
+    ∙ sum_map open_pads (fed_by e bytes) st.streams
+    ∙ sum_alike (λ s. open_pads (fed_by e bytes s)) open_pads st.streams (all_of _ (fed_falls e bytes) st.streams) in
+    let none : open_padding st - open_padding (after_moves st (recording_moves e bytes true st)) ≡ 0 =
+    omega (arith, same) in
+    tally_recorded e bytes st t ∙ ap (λ k. record t { rendered = k }) (counted_none t.rendered l none)
+
+lost_falls : (number : ℕ) (s : Stream) →
+    open_pads (lost_on number s) + amount_where (is_open_on number) padding s ≡ open_pads s
+lost_falls number s =
+    empties_where (is_open_on number) (closed Removal)
+    (λ s t. (and_parts (s.endpoint == number) (is_open s) t).1) (λ s. refl) s
+
+pub lost_counts : (e : Endpoint) (bytes : List ℕ) (st : Stage) (t : Tally) → RisesFrom 0 (clients st) →
+    t.dropped ≤ MAX_TALLY → tally_after t st (recording_moves e bytes false st) ≡ record t {
+      dropped = counted t.dropped (open_padding st - open_padding (after_moves st (recording_moves e bytes false st)));
+    }
+lost_counts e bytes st t r l =
+    tally_lost e bytes st r t l
+    ∙ ap (λ k. record t { dropped = counted t.dropped k })
+    (fall_by (lost_on e.no.0) (amount_where (is_open_on e.no.0) padding) (lost_falls e.no.0) st.streams
+    ∙ ap (λ after. open_padding st - open_padding after) (sym (recorded_stage e bytes st r false)))
 
 -- ---- clients that leave
 

@@ -5,26 +5,29 @@ use Rattle.std.proofs.Common.{refl, sym, ap, subst, ◌∙◌, arith, get_or, if
 use Rattle.std.specs.Int.{w32, to_le_bytes}
 use Rattle.ca_base.specs.declared.codes.Hr.{Hr}
 use Rattle.ca_base.specs.declared.codes.TheConstants.Hr as hr
+use Rattle.ca_base.specs.declared.ids.Flow.{Flow}
+use Rattle.ca_base.specs.declared.ids.Flow.TheVariants as flow
 use Rattle.ca_base.specs.Rows.{first}
 use Rattle.ca_base.specs.declared.ids.Reason.TheVariants.{Released}
 use Rattle.device_registry.specs.declared.endpoint.Endpoint.{Endpoint}
 use Rattle.ca_stage.specs.Stage.{Stream}
-use Rattle.ca_stage.specs.Moves.{reset, Mixing, of_client, after_moves, stream_at, sub_steps}
+use Rattle.ca_stage.specs.Moves.{reset, Mixing, of_client, after_moves, stream_at}
+use Rattle.ca_stage.specs.Periods.{sub_steps}
 use Rattle.ca_stage.specs.Order.{clients, RisesFrom}
 use Rattle.ca_stage.specs.Present.{AreGone}
 use Rattle.ca_stage.specs.Tally.{counted}
 use Rattle.ca_stage.proofs.Counting.{counted_none}
 use Rattle.ca_machine.specs.declared.state.Client.{Client}
 use Rattle.ca_machine.specs.State.{State, live_clients, is_client_of, endpoint_at}
-use Rattle.ca_machine.specs.Plan.{Outcome, Answer, outcome_of, granted, refused, unless_refused, is_whole, moved}
+use Rattle.ca_machine.specs.Plan.{Outcome, Answer, bytes_given, outcome_of, granted, refused, unless_refused, is_whole, moved}
 use Rattle.ca_machine.specs.SharedRows.{with_stream}
 use Rattle.ca_machine.specs.Clients.{closes, hangup_plan, is_client_on, leaving, release_plan, without_connection}
 use Rattle.ca_machine.specs.Streams.{reset_plan}
-use Rattle.ca_machine.specs.Periods.{after_period, mixing_of, period_of, period_payload, period_plan, period_rows, sounding}
+use Rattle.ca_machine.specs.Periods.{after_period, frames_recorded, mixing_of, period_by, period_frames, period_of, period_payload, period_plan, period_rows, recording, recording_moves, sounding}
 use Rattle.ca_machine.proofs.LiveClients.{gone_left}
 use Rattle.ca_machine.proofs.ClosesOfClients.{closes_are}
 use Rattle.service_core.specs.Counting.{HasCounts}
-use Rattle.service_core.proofs.TallyFalls.{closes_count, failed_counts, left_padding, open_padding, reset_counts, whole_counts}
+use Rattle.service_core.proofs.TallyFalls.{closes_count, failed_counts, left_padding, lost_counts, open_padding, recorded_counts, reset_counts, whole_counts}
 
 -- by how much fewer frames are pending in open streams
 abbrev pub fallen : State → State → ℕ
@@ -46,17 +49,17 @@ WereTaken false old new = WereRendered old new
 WereTaken true old new = WereDropped old new
 
 -- the last byte of a period's payload says whether it failed
-pub last_byte : (m : Mixing) (whole failed : Bool) (frames : ℕ) →
-    to_le_bytes w32 frames ++ (if failed then 1 else 0) ∷ [] ≡ period_payload m whole → failed ≡ not whole
-last_byte m true true frames e = cc (ap (λ bytes. get_or bytes 4 0) e)
-last_byte m true false frames e = refl
-last_byte m false true frames e = refl
-last_byte m false false frames e = cc (ap (λ bytes. get_or bytes 4 0) e)
+pub last_byte : (n : ℕ) (whole failed : Bool) (frames : ℕ) →
+    to_le_bytes w32 frames ++ (if failed then 1 else 0) ∷ [] ≡ period_payload n whole → failed ≡ not whole
+last_byte n true true frames e = cc (ap (λ bytes. get_or bytes 4 0) e)
+last_byte n true false frames e = refl
+last_byte n false true frames e = refl
+last_byte n false false frames e = cc (ap (λ bytes. get_or bytes 4 0) e)
 
 -- a period's payload has some bytes
-pub some_bytes : (m : Mixing) (whole : Bool) → [] ≡ period_payload m whole → ⊥
-some_bytes m true e = cc
-some_bytes m false e = cc
+pub some_bytes : (n : ℕ) (whole : Bool) → [] ≡ period_payload n whole → ⊥
+some_bytes n true e = cc
+some_bytes n false e = cc
 
 module _ (st : State) (rises : RisesFrom 0 (clients st.stage)) (fits : HasCounts st.tally) where
   none_fallen : fallen st st ≡ 0
@@ -133,14 +136,24 @@ module _ (st : State) (rises : RisesFrom 0 (clients st.stage)) (fits : HasCounts
   sounds m true = whole_counts m st.stage st.tally rises fits.rendered
   sounds m false = failed_counts m st.stage st.tally rises fits.dropped
 
-  period_unless : (m : Mixing) (given : List Answer) (verdict : Option Hr) (frames : ℕ) (failed : Bool) →
-      to_le_bytes w32 frames ++ (if failed then 1 else 0) ∷ []
-      ≡ (unless_refused st verdict (sounding st m given)).payload →
-      WereTaken failed st (unless_refused st verdict (sounding st m given)).after
-  period_unless m given None frames failed e =
-      subst (λ b. WereTaken b st (sounding st m given).after) (sym (last_byte m (is_whole given) failed frames e))
-      (sounds m (is_whole given))
-  period_unless m given (Some code) frames failed e = cc (ap (λ bytes. bytes) e)
+  records : (e : Endpoint) (bytes : List ℕ) (whole : Bool) →
+      WereTaken (not whole) st (after_period e.no.0 whole (moved (recording_moves e bytes whole st.stage) st))
+  records e bytes true = recorded_counts e bytes st.stage st.tally rises fits.rendered
+  records e bytes false = lost_counts e bytes st.stage st.tally rises fits.dropped
+
+  -- an outcome whose payload is that of a period of so many frames
+  module _ (o : Outcome) (n : ℕ) (whole : Bool) (pays : o.payload ≡ period_payload n whole) where
+    period_unless : WereTaken (not whole) st o.after → (verdict : Option Hr) (frames : ℕ) (failed : Bool) →
+        to_le_bytes w32 frames ++ (if failed then 1 else 0) ∷ [] ≡ (unless_refused st verdict o).payload →
+        WereTaken failed st (unless_refused st verdict o).after
+    period_unless taken None frames failed e =
+        subst (λ b. WereTaken b st o.after) (sym (last_byte n whole failed frames (e ∙ pays))) taken
+    period_unless taken (Some code) frames failed e = cc (ap (λ bytes. bytes) e)
+
+    nothing_unless : (verdict : Option Hr) → [] ≡ (unless_refused st verdict o).payload →
+        (unless_refused st verdict o).after.tally ≡ st.tally
+    nothing_unless None e = absurd (some_bytes n whole (e ∙ pays))
+    nothing_unless (Some code) e = refl
 
   -- a period of an endpoint that isn't there
   no_endpoint : (verdict : Option Hr) (frames : ℕ) (failed : Bool) →
@@ -150,12 +163,21 @@ module _ (st : State) (rises : RisesFrom 0 (clients st.stage)) (fits : HasCounts
   no_endpoint None frames failed e = cc (ap (λ bytes. bytes) e)
   no_endpoint (Some code) frames failed e = cc (ap (λ bytes. bytes) e)
 
+  of_flow : (d : Endpoint) (f : Flow) (given : List Answer) (frames : ℕ) (failed : Bool) →
+      to_le_bytes w32 frames ++ (if failed then 1 else 0) ∷ [] ≡ (outcome_of st (period_by st d f) given).payload →
+      WereTaken failed st (outcome_of st (period_by st d f) given).after
+  of_flow d flow.Render given frames failed e =
+      period_unless (sounding st (mixing_of st d) given) (period_frames d) (is_whole given) refl
+      (sounds (mixing_of st d) (is_whole given)) (first (period_rows st d)) frames failed e
+  of_flow d flow.Capture given frames failed e =
+      period_unless (recording st d given) (frames_recorded d (bytes_given given)) (is_whole given) refl
+      (records d (bytes_given given) (is_whole given)) (first (period_rows st d)) frames failed e
+
   of_endpoint : (e : Option Endpoint) (given : List Answer) (frames : ℕ) (failed : Bool) →
       to_le_bytes w32 frames ++ (if failed then 1 else 0) ∷ [] ≡ (outcome_of st (period_of st e) given).payload →
       WereTaken failed st (outcome_of st (period_of st e) given).after
   of_endpoint None given frames failed e = no_endpoint (first (period_of st None).rows) frames failed e
-  of_endpoint (Some endpoint) given frames failed e =
-      period_unless (mixing_of st endpoint) given (first (period_rows st endpoint)) frames failed e
+  of_endpoint (Some d) given frames failed e = of_flow d d.flow given frames failed e
 
   pub period_outcome : (number : ℕ) (given : List Answer) (frames : ℕ) (failed : Bool) →
       to_le_bytes w32 frames ++ (if failed then 1 else 0) ∷ []
@@ -164,12 +186,6 @@ module _ (st : State) (rises : RisesFrom 0 (clients st.stage)) (fits : HasCounts
   period_outcome number given frames failed e = of_endpoint (endpoint_at number st) given frames failed e
 
   -- a period that answers nothing changed nothing
-  nothing_unless : (m : Mixing) (given : List Answer) (verdict : Option Hr) →
-      [] ≡ (unless_refused st verdict (sounding st m given)).payload →
-      (unless_refused st verdict (sounding st m given)).after.tally ≡ st.tally
-  nothing_unless m given None e = absurd (some_bytes m (is_whole given) e)
-  nothing_unless m given (Some code) e = refl
-
   pub period_nothing : (number : ℕ) (given : List Answer) →
       [] ≡ (outcome_of st (period_plan st number) given).payload →
       (outcome_of st (period_plan st number) given).after.tally ≡ st.tally
@@ -180,7 +196,17 @@ module _ (st : State) (rises : RisesFrom 0 (clients st.stage)) (fits : HasCounts
       refused_still None = refl
       refused_still (Some code) = refl
 
+      by_flow : (d : Endpoint) (f : Flow) (given : List Answer) →
+          [] ≡ (outcome_of st (period_by st d f) given).payload →
+          (outcome_of st (period_by st d f) given).after.tally ≡ st.tally
+      by_flow d flow.Render given e =
+          nothing_unless (sounding st (mixing_of st d) given) (period_frames d) (is_whole given) refl
+          (first (period_rows st d)) e
+      by_flow d flow.Capture given e =
+          nothing_unless (recording st d given) (frames_recorded d (bytes_given given)) (is_whole given) refl
+          (first (period_rows st d)) e
+
       of_none : (o : Option Endpoint) (given : List Answer) → [] ≡ (outcome_of st (period_of st o) given).payload →
           (outcome_of st (period_of st o) given).after.tally ≡ st.tally
       of_none None given e = refused_still (first (period_of st None).rows)
-      of_none (Some endpoint) given e = nothing_unless (mixing_of st endpoint) given (first (period_rows st endpoint)) e
+      of_none (Some d) given e = by_flow d d.flow given e

@@ -7,7 +7,7 @@ use Rattle.ca_model.specs.declared.event.Call.{Call}
 use Rattle.ca_model.specs.declared.event.Call.TheVariants as call
 use Rattle.wave_format.specs.Format.{spelled}
 use Rattle.ca_stage.specs.Stage.{Stream}
-use Rattle.ca_stage.specs.Moves.{StreamMove, leased, released, started, stopped, of_client, is_open_of, stream_at}
+use Rattle.ca_stage.specs.Moves.{StreamMove, leased, released, read, started, stopped, of_client, is_open_of, stream_at}
 use Rattle.ca_stage.specs.Tally.{Tally, tally_of_found, tally_of_stream}
 use Rattle.device_registry.specs.declared.endpoint.Endpoint.{Endpoint}
 use Rattle.session_manager.specs.declared.session.Session.{Session}
@@ -22,7 +22,7 @@ use Rattle.ca_machine.specs.Endpoints.{default_at, device_info_plan, endpoint_na
 use Rattle.ca_machine.specs.Registrations.{take_notices_plan}
 use Rattle.ca_machine.specs.Streams.{Opening, initialize_plan, initialized, supported, is_faulty, matches, format_payload, with_stream_level}
 use Rattle.ca_machine.specs.Sessions.{enum_sessions_plan, get_session_plan, session_payload, state_of_session, with_session}
-use Rattle.ca_machine.specs.Data.{get_buffer_plan, release_buffer_plan, frames_released}
+use Rattle.ca_machine.specs.Data.{capture_get_buffer_plan, capture_release_buffer_plan, first_packet, frames_released, get_buffer_plan, get_next_packet_size_plan, packets_read, release_buffer_plan}
 use Rattle.ca_machine.specs.Step.{call_plan}
 use Rattle.service_board.specs.Calls.{IsPlainCall}
 use Rattle.service_core.proofs.EventsFall.{IsControlCall}
@@ -78,12 +78,12 @@ mute_found client m mute (Some s) t = by (is_open_of client s)
     by true = mute s t
     by false = refl
 
-moves : (st : State) (rows : List (Row Hr)) (s : Option Stream) (client : ℕ) (m : Stream → StreamMove) →
-    ((s : Stream) → IsMute (m s)) →
-    LeavesTally st (plain rows (with_stream st s (λ s. granted [] (of_client client (m s) ∷ []) st)))
-moves st rows s client m mute =
-    of_plain st rows (with_stream st s (λ s. granted [] (of_client client (m s) ∷ []) st))
-    (of_stream st s (λ s. granted [] (of_client client (m s) ∷ []) st)
+moves : (st : State) (rows : List (Row Hr)) (s : Option Stream) (client : ℕ) (payload : Stream → List ℕ)
+    (m : Stream → StreamMove) → ((s : Stream) → IsMute (m s)) →
+    LeavesTally st (plain rows (with_stream st s (λ s. granted (payload s) (of_client client (m s) ∷ []) st)))
+moves st rows s client payload m mute =
+    of_plain st rows (with_stream st s (λ s. granted (payload s) (of_client client (m s) ∷ []) st))
+    (of_stream st s (λ s. granted (payload s) (of_client client (m s) ∷ []) st)
     (λ s. mute_found client (m s) (mute s) (stream_at client st.stage) st.tally))
 
 of_opening : (st : State) (conn : ℕ) (client : Option Client) (x : Opening) → Leaves st (initialized st conn client x)
@@ -145,9 +145,9 @@ tally_of_call st conn (call.GetMixFormat c) h =
     (of_endpoint st (endpoint_of st (client_of conn c.0 st)) (λ e. answered st (format_payload e.format)) (λ e. refl))
 tally_of_call st conn (call.GetDevicePeriod c) h = of_plain st _ _ refl
 tally_of_call st conn (call.Start c) h =
-    moves st _ (stream_at c.0 st.stage) c.0 (λ s. started) (λ s r t. refl)
+    moves st _ (stream_at c.0 st.stage) c.0 (λ s. []) (λ s. started) (λ s r t. refl)
 tally_of_call st conn (call.Stop c) h =
-    moves st _ (stream_at c.0 st.stage) c.0 (λ s. stopped) (λ s r t. refl)
+    moves st _ (stream_at c.0 st.stage) c.0 (λ s. []) (λ s. stopped) (λ s r t. refl)
 tally_of_call st conn (call.Reset c) h = absurd h
 tally_of_call st conn (call.GetService c service) h = tells st _ (stream_at c.0 st.stage) _
 tally_of_call st conn (call.GetPosition c) h = tells st _ (stream_at c.0 st.stage) _
@@ -156,6 +156,9 @@ tally_of_call st conn (call.SetStreamLevel c channel level) h = still st _ (stre
     (record st { clients = with_stream_level conn c.0 channel level st.clients }) refl
 tally_of_call st conn (call.GetBuffer c frames) h = absurd h
 tally_of_call st conn (call.ReleaseBuffer c frames flags bytes) h = absurd h
+tally_of_call st conn (call.GetNextPacketSize c) h = absurd h
+tally_of_call st conn (call.CaptureGetBuffer c) h = absurd h
+tally_of_call st conn (call.CaptureReleaseBuffer c frames) h = absurd h
 tally_of_call st conn (call.EnumSessions e) h = absurd h
 tally_of_call st conn (call.GetSession s) h = absurd h
 tally_of_call st conn (call.SetMaster s level context) h = of_plain st _ _ refl
@@ -177,13 +180,26 @@ tally_of_padding st conn client = tells st _ (stream_at client st.stage) _
 
 pub tally_of_lease : (st : State) (conn client frames : ℕ) → LeavesTally st (get_buffer_plan st conn client frames)
 tally_of_lease st conn client frames =
-    moves st _ (stream_at client st.stage) client (λ s. leased frames) (λ s r t. refl)
+    moves st _ (stream_at client st.stage) client (λ s. []) (λ s. leased frames) (λ s r t. refl)
 
 pub tally_of_release : (st : State) (conn client frames flags : ℕ) (bytes : List ℕ) →
     LeavesTally st (release_buffer_plan st conn client frames flags bytes)
 tally_of_release st conn client frames flags bytes =
-    moves st _ (stream_at client st.stage) client (λ s. released (frames_released frames flags bytes s.channels))
+    moves st _ (stream_at client st.stage) client (λ s. [])
+    (λ s. released (frames_released frames flags bytes s.channels)) (λ s r t. refl)
+
+pub tally_of_next : (st : State) (conn client : ℕ) → LeavesTally st (get_next_packet_size_plan st conn client)
+tally_of_next st conn client = tells st _ (stream_at client st.stage) _
+
+pub tally_of_packet : (st : State) (conn client : ℕ) → LeavesTally st (capture_get_buffer_plan st conn client)
+tally_of_packet st conn client =
+    moves st _ (stream_at client st.stage) client (λ s. first_packet s.buffer_data.packets) (λ s. leased s.period)
     (λ s r t. refl)
+
+pub tally_of_read : (st : State) (conn client frames : ℕ) →
+    LeavesTally st (capture_release_buffer_plan st conn client frames)
+tally_of_read st conn client frames =
+    moves st _ (stream_at client st.stage) client (λ s. []) (λ s. read (packets_read frames)) (λ s r t. refl)
 
 pub tally_of_open : (st : State) (conn process : ℕ) (name : List ℕ) → LeavesTally st (open_plan st conn process name)
 tally_of_open st conn process name = of_plain st _ _ refl
@@ -213,4 +229,6 @@ tally_of_get st conn number =
 pub plain_control : (x : Call) → IsPlainCall x → IsControlCall x
 plain_control (call.GetBuffer c frames) h = h
 plain_control (call.ReleaseBuffer c frames flags bytes) h = h
+plain_control (call.CaptureGetBuffer c) h = h
+plain_control (call.CaptureReleaseBuffer c frames) h = h
 plain_control _ h = tt

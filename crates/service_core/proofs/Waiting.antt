@@ -1,11 +1,13 @@
 -- The frames that wait in the streams of a service are the words of its stores.
-use Rattle.std.proofs.Common.{◌≡◌, ℕ, ◌+◌, min, List, sum_by, refl, sym, ap, ◌∙◌, arith}
+use Rattle.std.proofs.Common.{◌≡◌, ℕ, ◌+◌, min, List, [], length, Bool, true, false, sum_by, refl, sym, ap, ◌∙◌}
+use Rattle.std.proofs.Common.{arith, if◌then◌else◌}
 use Rattle.std.proofs.lemmas.List.{length-map}
 use Rattle.wave_format.specs.Frame.{frame_of}
 use Rattle.ca_base.specs.declared.limits.TheConstants.{MAX_TALLY}
 use Rattle.buffer_ring.specs.Kept.{Kept}
 use Rattle.buffer_ring.specs.declared.step.EndState.{EndState}
-use Rattle.ca_stage.specs.Stage.{padding}
+use Rattle.ca_stage.specs.Stage.{is_render, padding}
+use Rattle.client_state.specs.Frames.{frames_in}
 use Rattle.ca_machine.specs.View.{MachineView}
 use Rattle.period_engine.specs.declared.entry.StreamEntry.{StreamEntry}
 use Rattle.period_engine.specs.Entries.{AreInOrder, streams_of}
@@ -24,7 +26,13 @@ module _ {F : Type 0} (kept : F → Kept) where
       sum_by (words_in kept streams.All) xs ≡ sum_by padding (streams_of (core_datas kept xs) xs)
   words_wait =
       sums kept (words_in kept streams.All) padding
-      (λ e. sym (length-map (kept e.store.store).words (frame_of e.channels)))
+      (λ e. each e (is_render e.kind))
+    where
+      each : (e : StreamEntry (BothEnds F)) (plays : Bool) →
+          (if plays then length (kept e.store.store).words else 0)
+          ≡ length (if plays then frames_in e.channels (kept e.store.store).words else [])
+      each e true = sym (length-map (kept e.store.store).words (frame_of e.channels))
+      each e false = refl
 
   module _ {D : Type 0} (state : F → EndState) (whole : (x : F) → end_of (kept x) ≡ state x)
       (old new : Board D (BothEnds F)) (around : LooksAround kept old new) where

@@ -2,17 +2,21 @@
 use Rattle.std.specs.Prelude.{
   ◌≡◌,
   ℕ,
+  suc,
   ◌+◌,
   ◌-◌,
   ◌*◌,
   ◌≤◌,
+  true,
   false,
   ◌==◌,
+  ◌&&◌,
   List,
   [],
   ◌∷◌,
   ◌++◌,
   length,
+  drop,
   Option,
   Some,
   None,
@@ -24,20 +28,22 @@ use Rattle.std.specs.Vec.{vec_capacity}
 use Rattle.device_io.specs.DeviceLog.{DeviceLog}
 use Rattle.ca_base.specs.declared.codes.Hr.{Hr}
 use Rattle.ca_base.specs.declared.ids.Seen.{Seen}
-use Rattle.ca_base.specs.declared.ids.Dir.TheVariants as dir
 use Rattle.ca_base.specs.declared.limits.TheConstants.{MAX_STORE_WORDS, SHARED_PERIOD}
 use Rattle.wave_format.specs.Format.{frames_of_time}
 use Rattle.buffer_ring.specs.Kept.{Kept, new_store}
 use Rattle.client_state.specs.declared.side.ClientSide.{ClientSide}
 use Rattle.client_state.specs.Frames.{frames_in}
-use Rattle.ca_stage.specs.Stage.{BufferData, Frame, is_open_gate, no_data}
+use Rattle.ca_stage.specs.Stage.{BufferData, Frame, is_open_gate, is_render, no_data}
 use Rattle.ca_stage.specs.Tally.{Tally}
 use Rattle.ca_machine.specs.State.{State}
 use Rattle.ca_machine.specs.Plan.{Plan}
 use Rattle.ca_machine.specs.View.{AnswersBy, outside}
-use Rattle.ca_machine.specs.Data.{side_of}
+use Rattle.ca_machine.specs.Data.{dir_of, side_of}
 use Rattle.period_engine.specs.declared.entry.StreamEntry.{StreamEntry}
+use Rattle.period_engine.specs.Agreement.{Layout, layout_of}
 use Rattle.period_engine.specs.Entries.{stream_with}
+use Rattle.period_engine.specs.Packed.{packets_in}
+use Rattle.reply_payload.specs.declared.payload.TheConstants.{REPLY_ROOM}
 use Rattle.service_book.specs.declared.opening.OpeningPlan.{OpeningPlan}
 use Rattle.service_board.specs.Board.{state_of}
 use Rattle.service_board.specs.declared.board.Board.{Board}
@@ -46,13 +52,19 @@ use Rattle.service_core.specs.declared.both_ends.BothEnds.{BothEnds}
 use Rattle.service_core.specs.declared.pending.Streams.{Streams}
 use Rattle.service_core.specs.declared.pending.Streams.TheVariants as streams
 
--- the data of an entry's client: the frames of its store, and what its side counts and leases
-abbrev pub core_data : {F : Type 0} → (F → Kept) → StreamEntry (BothEnds F) → BufferData
-core_data kept e = record {
-  pending = frames_in e.channels (kept e.store.store).words;
-  released = e.store.side.released;
-  lease = e.store.side.lease;
+-- a client's data by the words of its store: frames that are to be played, or packets
+abbrev pub data_in : Layout → List ℕ → ℕ → Option ℕ → BufferData
+data_in l words released lease = record {
+  pending = if l.plays then frames_in l.channels words else [];
+  packets = if l.plays then [] else packets_in l.channels l.period words;
+  released = released;
+  lease = lease;
 }
+
+-- the data of an entry's client: the words of its store, and what its side counts and leases
+abbrev pub core_data : {F : Type 0} → (F → Kept) → StreamEntry (BothEnds F) → BufferData
+core_data kept e =
+    data_in (layout_of e) (kept e.store.store).words e.store.side.released e.store.side.lease
 
 -- the same by the client's number; none where the client has no entry
 abbrev pub core_datas : {F : Type 0} → (F → Kept) → List (StreamEntry (BothEnds F)) → ℕ → BufferData
@@ -64,11 +76,18 @@ core_datas kept (e ∷ entries) client =
 abbrev pub core_state : {D F : Type 0} → (F → Kept) → Tally → Board D (BothEnds F) → State
 core_state kept tally b = state_of (core_datas kept b.entries.items) tally b
 
--- a client's side knows its stream, and its store, which is of a size that stores have, has room for what is leased
+-- the words of a store are whole packets, if it has packets
+abbrev pub ArePackets : Layout → List ℕ → Type 0
+ArePackets l words = l.plays ≡ false → (k : ℕ) × (length words ≡ k * suc l.period)
+
+-- a client's side knows its stream; its store is of a size that stores have, has room for the frames that it leased to
+-- be released, and its words are whole packets if it has packets; a packet fits a reply, whatever its channels
 pub record HasSide {F : Type 0} (kept : F → Kept) (e : StreamEntry (BothEnds F)) : Type 0 where
   pub side : e.store.side ≡ side_of (Some (stream_with (core_data kept e) e))
-  pub room : IfSome e.store.side.lease (λ n. n ≤ e.room - length (kept e.store.store).words)
+  pub room : is_render e.kind ≡ true → IfSome e.store.side.lease (λ n. n ≤ e.room - length (kept e.store.store).words)
+  pub packed : ArePackets (layout_of e) (kept e.store.store).words
   pub small : e.room ≤ MAX_STORE_WORDS
+  pub reply : 16 + e.period * 8 ≤ REPLY_ROOM
 
 abbrev pub HaveSides : {D F : Type 0} → (F → Kept) → Board D (BothEnds F) → Type 0
 HaveSides kept b = All (HasSide kept) b.entries.items
@@ -112,10 +131,20 @@ pub record Releases {F : Type 0} (kept : F → Kept) (frames : List Frame) (coun
       ≡ frames_in a.channels (kept a.store.store).words ++ frames
   pub took : TookMore count (kept a.store.store) (kept b.store.store)
 
--- how many words an entry's store has; none if its stream is none of these
+-- packets were taken off the front of a store, and the client has no lease any more
+pub record Reads {F : Type 0} (kept : F → Kept) (count : ℕ) (a b : StreamEntry (BothEnds F)) : Type 0 where
+  pub same : b ≡ record a { store = b.store }
+  pub side : b.store.side ≡ record (a.store.side) { lease = None }
+  pub taken : packets_in a.channels a.period (kept b.store.store).words
+      ≡ drop count (packets_in a.channels a.period (kept a.store.store).words)
+  pub packed : ArePackets (layout_of b) (kept b.store.store).words
+  pub state : record (kept b.store.store) { words = [] } ≡ record (kept a.store.store) { words = [] }
+
+-- how many frames that are to be played an entry's store has; none if its stream is none of these
 abbrev pub words_in : {F : Type 0} → (F → Kept) → Streams → StreamEntry (BothEnds F) → ℕ
-words_in kept streams.All e = length (kept e.store.store).words
-words_in kept streams.Open e = if is_open_gate e.gate then length (kept e.store.store).words else 0
+words_in kept streams.All e = if is_render e.kind then length (kept e.store.store).words else 0
+words_in kept streams.Open e =
+    if is_render e.kind && is_open_gate e.gate then length (kept e.store.store).words else 0
 
 -- looks were taken at the stores, and nothing was changed
 pub record LooksAround {D F : Type 0} (kept : F → Kept) (old new : Board D (BothEnds F)) : Type 0 where
@@ -134,12 +163,12 @@ GoesTo faults told kept plan result payload before after old new =
 -- the client's side of a stream that is opened by this plan
 abbrev pub new_side : OpeningPlan → ClientSide
 new_side plan = record {
-  dir = dir.Render;
+  dir = dir_of plan.kind;
   exclusive = false;
   event = false;
   buffer = plan.buffer;
   period = frames_of_time plan.format.rate SHARED_PERIOD;
-  store_frames = plan.buffer;
+  store_frames = plan.words;
   block = plan.format.channels * 2;
   lease = None;
   released = 0;
@@ -148,4 +177,4 @@ new_side plan = record {
 -- both ends of a stream that is opened by this plan
 pub record AreNewEnds {F : Type 0} (kept : F → Kept) (plan : OpeningPlan) (ends : BothEnds F) : Type 0 where
   pub side : ends.side ≡ new_side plan
-  pub store : kept ends.store ≡ new_store plan.buffer dir.Render
+  pub store : kept ends.store ≡ new_store plan.words (dir_of plan.kind)

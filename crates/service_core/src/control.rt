@@ -1,7 +1,8 @@
 //! Events on a service.
 
 ghost use Rattle.ca_machine.specs.Clients.{hangup_plan, open_plan, release_plan};
-ghost use Rattle.ca_machine.specs.Data.{get_buffer_plan, get_current_padding_plan, release_buffer_plan};
+ghost use Rattle.ca_machine.specs.Data.{capture_release_buffer_plan, get_buffer_plan, get_current_padding_plan};
+ghost use Rattle.ca_machine.specs.Data.{get_next_packet_size_plan, release_buffer_plan};
 ghost use Rattle.ca_machine.specs.Devices.{shutdown_plan};
 ghost use Rattle.ca_machine.specs.Step.{call_plan, device_plan};
 ghost use Rattle.ca_machine.specs.Streams.{reset_plan};
@@ -14,7 +15,9 @@ use crate::Core;
 use crate::counting::{
     counted_device, counted_hangup, counted_release, counted_reset, counted_shutdown,
 };
-use crate::data::{get_buffer, get_current_padding, release_buffer};
+use crate::data::{
+    capture_release_buffer, get_buffer, get_current_padding, get_next_packet_size, release_buffer,
+};
 use crate::new_ends::new_ends;
 use buffer_ring::FrameStore;
 use ca_base::{ClientNo, ConnNo, Hr, Text};
@@ -104,6 +107,27 @@ impl<D: Devices, F: FrameStore> Core<D, F> {
         release_buffer(&mut self.board, conn, client, frames, flags, bytes)
     }
 
+    /// IAudioCaptureClient::GetNextPacketSize.
+    fn get_next_packet_size(&mut self, conn: ConnNo, client: ClientNo) -> Result<Payload, Hr>
+        ensures { AnswersPlan D.faults D.told (λ st. get_next_packet_size_plan st conn.0 client.0)
+            (code_of result) (payload_of result) self.old self.new }
+    {
+        get_next_packet_size(&mut self.board, conn, client)
+    }
+
+    /// IAudioCaptureClient::ReleaseBuffer.
+    fn capture_release_buffer(
+        &mut self,
+        conn: ConnNo,
+        client: ClientNo,
+        frames: u32,
+    ) -> Result<Payload, Hr>
+        ensures { AnswersPlan D.faults D.told (λ st. capture_release_buffer_plan st conn.0 client.0 frames)
+            (code_of result) (payload_of result) self.old self.new }
+    {
+        capture_release_buffer(&mut self.board, conn, client, frames)
+    }
+
     /// A call that opens no stream, needs nothing of the client's side, gives no frame a fate, and answers a few
     /// bytes.
     fn plain_call(&mut self, conn: ConnNo, call: &Call) -> Result<Payload, Hr>
@@ -131,6 +155,10 @@ impl<D: Devices, F: FrameStore> Core<D, F> {
                 flags,
                 bytes,
             } => self.release_buffer(conn, *client, *frames, *flags, bytes.as_slice()),
+            Call::GetNextPacketSize { client } => self.get_next_packet_size(conn, *client),
+            Call::CaptureReleaseBuffer { client, frames } => {
+                self.capture_release_buffer(conn, *client, *frames)
+            }
             Call::Initialize {
                 client,
                 share,

@@ -1,6 +1,7 @@
 //! The service as a desk: it answers each event as the machine does.
 
 ghost use Rattle.std.specs.Prelude.{◌≡◌, ◌≤◌, [], length};
+ghost use Rattle.ca_machine.specs.Data.{capture_get_buffer_plan};
 ghost use Rattle.ca_machine.specs.Registrations.{take_notices_plan};
 ghost use Rattle.ca_machine.specs.Step.{call_plan, plan};
 ghost use Rattle.ca_machine.specs.View.{AnswersEvent};
@@ -10,9 +11,10 @@ ghost use Rattle.service_core.specs.Service.{AnswersPlan, HasHead};
 ghost use Rattle.service_core.specs.Telling.{IsNoPeriod};
 
 use crate::Core;
+use crate::data::capture_get_buffer;
 use buffer_ring::FrameStore;
 use ca_base::values::{KIND_CALL, KIND_DEVICE, KIND_HANGUP, KIND_OPEN, KIND_PERIOD, KIND_SHUTDOWN};
-use ca_base::{Bytes, ConnNo, Hr, NoMemory};
+use ca_base::{Bytes, ClientNo, ConnNo, Hr, NoMemory};
 use ca_model::{Call, Event, Reply};
 use call_wire::Desk;
 use device_io::Devices;
@@ -87,6 +89,18 @@ impl<D: Devices, F: FrameStore> Core<D, F> {
         told_code(self.board.take_notices(conn, max, payload))
     }
 
+    /// The first packet of a client's stream, which is leased (IAudioCaptureClient::GetBuffer).
+    fn capture_get_buffer(&mut self, conn: ConnNo, client: ClientNo, payload: &mut Bytes) -> Hr
+        requires empty { payload.old.list ≡ [] }
+        requires room { REPLY_ROOM ≤ payload.old.capacity }
+        ensures answers { AnswersPlan D.faults D.told (λ st. capture_get_buffer_plan st conn.0 client.0) result
+            payload.new.list self.old self.new }
+        ensures within { length payload.new.list ≤ REPLY_ROOM }
+        ensures keeps { payload.old.capacity ≤ payload.new.capacity }
+    {
+        told_code(capture_get_buffer(&mut self.board, conn, client, payload))
+    }
+
     /// Answers a call: its code, and its payload.
     #[inline(always)]
     pub(crate) fn answer_call(&mut self, conn: ConnNo, call: &Call, payload: &mut Bytes) -> Hr
@@ -110,6 +124,7 @@ impl<D: Devices, F: FrameStore> Core<D, F> {
             Call::TakeNotices { max } | Call::AwaitNotices { max } => {
                 self.take_notices(conn, *max, payload)
             }
+            Call::CaptureGetBuffer { client } => self.capture_get_buffer(conn, *client, payload),
             Call::GetSession { session } => {
                 told_code(self.board.get_session(conn, *session, payload))
             }

@@ -7,6 +7,7 @@ mod counting;
 mod data;
 mod desk;
 mod new_ends;
+mod packets;
 mod pending;
 mod putting;
 mod service;

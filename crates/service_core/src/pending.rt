@@ -8,7 +8,7 @@ ghost use Rattle.service_core.specs.Core.{IsLooked, LooksAround, words_in};
 
 use crate::BothEnds;
 use buffer_ring::FrameStore;
-use ca_base::Gate;
+use ca_base::{Gate, StreamKind};
 use period_engine::StreamEntry;
 use service_board::Board;
 
@@ -19,18 +19,21 @@ pub enum Streams {
     Open,
 }
 
-/// How many words an entry's store has; 0 if its stream is none of these.
+/// How many frames that are to be played an entry's store has; 0 if its stream is none of these.
 fn words_in<F: FrameStore>(entry: &mut StreamEntry<BothEnds<F>>, streams: Streams) -> u32
     ensures count { result ≡ words_in F.kept streams entry.old }
     ensures looked { IsLooked F.kept entry.old entry.new }
 {
+    if entry.kind != StreamKind::Render {
+        return 0;
+    }
     match (streams, entry.gate) {
         (Streams::Open, Gate::Closed(_)) => 0,
         _ => entry.store.store.look().words,
     }
 }
 
-/// How many words the stores of these streams have.
+/// How many frames that are to be played the stores of these streams have.
 fn words_in_all<F: FrameStore>(all: &mut [StreamEntry<BothEnds<F>>], streams: Streams) -> u64
     requires { length all.old ≤ CLIENTS }
     ensures count { result ≡ sum_by (words_in F.kept streams) all.old }

@@ -1,35 +1,18 @@
 //! Frames into a store: from bytes, or silent ones.
 
-ghost use Rattle.std.specs.Prelude.{◌≡◌, ◌≢◌, ℕ, ◌-◌, ◌*◌, ◌≤◌, ◌++◌, length, map, replicate};
+ghost use Rattle.std.specs.Prelude.{◌≡◌, ◌≢◌, ℕ, ◌-◌, ◌*◌, ◌≤◌, ◌++◌, length, replicate};
 ghost use Rattle.ca_base.specs.declared.ids.Gate.TheVariants as gate;
-ghost use Rattle.wave_format.specs.Frame.{frame_of, frames_from};
+ghost use Rattle.wave_format.specs.Frame.{IsBlock, frames_from};
 ghost use Rattle.client_state.specs.Frames.{frames_in};
 ghost use Rattle.ca_machine.specs.Data.{frames_released};
-ghost use Rattle.service_core.specs.Putting.{IsBlock, TookMore};
+ghost use Rattle.service_core.specs.Putting.{TookMore};
 
 use buffer_ring::FrameStore;
 use ca_base::values::BUFFER_SILENT;
-use wave_format::{frames_of_bytes_are_written, word_from_bytes, word_holds_the_frame};
+use wave_format::words_of;
 
 /// How many frames are turned into words at a time, on the stack.
 const BATCH: u32 = 64;
-
-/// Writes the words of frames of `N` bytes.
-fn words_of<const N: usize>(bytes: &[u8], words: &mut [u64])
-    requires size { length bytes.now ≡ length words.old * N }
-    requires block { IsBlock N }
-    ensures frames { (channels : ℕ) → N ≡ channels * 2 →
-        map (frame_of channels) words.new ≡ frames_from (length words.old) channels bytes.now }
-{
-    word_holds_the_frame();
-    frames_of_bytes_are_written();
-    let mut rest = bytes;
-    for i in 0..words.len() {
-        let (frame, after) = rest.split_at(N);
-        words[i] = word_from_bytes(frame);
-        rest = after;
-    }
-}
 
 /// Puts so many frames of `N` bytes into a store.
 fn put_blocks<F: FrameStore, const N: usize>(store: &mut F, frames: u32, bytes: &[u8])

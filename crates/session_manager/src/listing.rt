@@ -9,17 +9,6 @@ use crate::{Session, SessionBook};
 use ca_base::limits::SESSIONS;
 use ca_base::{Bytes, EndpointNo};
 
-/// Adds bytes that fit without asking for memory.
-fn add(out: &mut Bytes, bytes: &[u8])
-    requires { length out.old.list + length bytes.now ≤ out.old.capacity }
-    ensures list { out.new.list ≡ out.old.list ++ bytes.now }
-    ensures keeps { out.old.capacity ≤ out.new.capacity }
-{
-    if out.append(bytes).is_err() {
-        unreachable!();
-    }
-}
-
 /// Adds the numbers of an endpoint's sessions, eight bytes each.
 fn add_numbers(list: &[Session], e: EndpointNo, out: &mut Bytes)
     requires { length out.old.list + 8 * length list.now ≤ out.old.capacity }
@@ -28,7 +17,7 @@ fn add_numbers(list: &[Session], e: EndpointNo, out: &mut Bytes)
 {
     'sessions: for s in list.iter() {
         if s.key.endpoint == e {
-            add(out, &s.no.0.to_le_bytes());
+            out.append_reserved(&s.no.0.to_le_bytes());
         }
     }
 }

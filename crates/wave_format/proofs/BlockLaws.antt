@@ -96,13 +96,13 @@ AreBytes-cons : (byte : ℕ) (bytes : List ℕ) → byte < 256 → AreBytes byte
 AreBytes-cons byte bytes b h zero = b
 AreBytes-cons byte bytes b h (suc i) = h i
 
-AreBytes-take : (n : ℕ) (bytes : List ℕ) → AreBytes bytes → AreBytes (take n bytes)
+pub AreBytes-take : (n : ℕ) (bytes : List ℕ) → AreBytes bytes → AreBytes (take n bytes)
 AreBytes-take zero bytes h = λ i. omega arith
 AreBytes-take (suc n) [] h = λ i. omega arith
 AreBytes-take (suc n) (byte ∷ bytes) h =
     AreBytes-cons byte (take n bytes) (h 0) (AreBytes-take n bytes (λ i. h (suc i)))
 
-AreBytes-drop : (n : ℕ) (bytes : List ℕ) → AreBytes bytes → AreBytes (drop n bytes)
+pub AreBytes-drop : (n : ℕ) (bytes : List ℕ) → AreBytes bytes → AreBytes (drop n bytes)
 AreBytes-drop zero bytes h = h
 AreBytes-drop (suc n) [] h = h
 AreBytes-drop (suc n) (byte ∷ bytes) h = AreBytes-drop n bytes (λ i. h (suc i))

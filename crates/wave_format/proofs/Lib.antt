@@ -3,3 +3,5 @@ pub mod BlockLaws
 pub mod RowLaws
 pub mod FieldLaws
 pub mod FormatLaws
+pub mod FrameWords
+pub mod FrameCuts

@@ -1,7 +1,7 @@
 -- Frames: one sample a channel. In the model a frame is a list of numbers from -32768 to 32767; in a store it is one
 -- word of 64 bits.
 use Rattle.std.specs.Prelude.{◌≡◌, ◌<◌, length, slice_index, ℕ, zero, suc, ◌+◌, ◌*◌, ◌/◌, ◌%◌, ◌^◌, List, [], ◌∷◌}
-use Rattle.std.specs.Prelude.{take, drop, map, ℤ}
+use Rattle.std.specs.Prelude.{take, drop, map, ℤ, ◌⊎◌}
 use Rattle.std.specs.List.{flat_map, range_with_len, AllByRecursion}
 use Rattle.std.specs.Int.{w16, cast_unsigned, cast_signed, to_le_bytes, from_le_bytes}
 use Rattle.std.specs.Int.RustNames.{FitsSigned}
@@ -47,3 +47,7 @@ abbrev pub frames_from : ℕ → ℕ → List ℕ → List (List ℤ)
 frames_from zero channels bytes = []
 frames_from (suc count) channels bytes =
     frame_from (take (channels * 2) bytes) ∷ frames_from count channels (drop (channels * 2) bytes)
+
+-- the bytes of a frame of 1 to 4 channels (WAVEFORMATEX, nBlockAlign)
+abbrev pub IsBlock : ℕ → Type 0
+IsBlock block = (block ≡ 2) ⊎ ((block ≡ 4) ⊎ ((block ≡ 6) ⊎ (block ≡ 8)))

@@ -8,6 +8,7 @@ mod laws;
 pub mod layout;
 #[cfg(test)]
 mod tests;
+mod words;
 
 pub use format::{
     Format, FormatFault, format_length, format_tag, frames_of, read_format, write_format,
@@ -17,3 +18,4 @@ pub use laws::{
     bytes_of_frames_are_read, frames_of_bytes_are_written, read_format_is_written,
     word_holds_the_frame, word_is_its_frame, written_format_is_read,
 };
+pub use words::words_of;

@@ -127,5 +127,11 @@ fn frame_words(rt: HostRuntime) -> Result<(), Fail> {
     let mut out = [0; 4];
     bytes_of_word(word, &mut out);
     assert_eq!(rt; out, bytes);
+    let mut words = [0; 2];
+    words_of::<4>(
+        &[0x01, 0x00, 0xff, 0xff, 0x00, 0x80, 0xff, 0x7f],
+        &mut words,
+    );
+    assert_eq!(rt; words, [word, 0x7fff_8000]);
     Ok(())
 }

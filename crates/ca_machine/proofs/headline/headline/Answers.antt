@@ -15,4 +15,7 @@ returns c = runs_have_headline (record {
   silence = c.silence.ensures;
   present_is_whole = c.present_is_whole.ensures;
   present_goes_on = c.present_goes_on.ensures;
+  booked = c.booked.ensures;
+  read_in_order = c.read_in_order.ensures;
+  packets_come_from = c.packets_come_from.ensures;
 })

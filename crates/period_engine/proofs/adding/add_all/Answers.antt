@@ -1,4 +1,4 @@
-use Rattle.std.proofs.Common.{◌≡◌, pos, length, replicate, arith, rules}
+use Rattle.std.proofs.Common.{◌≡◌, pos, length, replicate, arith}
 use Rattle.volume_stack.specs.Sums.{sum_limit}
 use Rattle.period_engine.specs.Added.{AddsEntry, IsAddable, most_sum}
 use Rattle.period_engine.proofs.Passes.{none_passed, next_has, one_passed, all_passed}
@@ -8,7 +8,7 @@ use Rattle.period_engine.proofs.adding.add_all.Goals as goal
 pub loop-entry-init : goal.loop-entry-init
 loop-entry-init g c =
     let R = AddsEntry g.E.EngineSide.moves g.E.EngineSide.state c.args.channels in
-    let zeros : c.fill.new.self ≡ replicate (length c.args.sums.now) (pos 0) = search rules in
+    let zeros : c.fill.new.self ≡ replicate (length c.args.sums.now) (pos 0) = c.fill.ensures.after (λ y h. h) in
     rw zeros (record {
       adds = none_passed R c.args.all.now (replicate (length c.args.sums.now) (pos 0));
       near = zeros_near (length c.args.sums.now);

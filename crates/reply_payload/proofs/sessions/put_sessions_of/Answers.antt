@@ -10,7 +10,7 @@ payload_is : (c : goal.After-enumerate) →
 payload_is c =
     rw (
       c.enumerate.ensures.list,
-      c.add.ensures.list,
+      c.append_reserved.ensures.list,
       c.requires.empty,
       c.to_le_bytes.ensures,
       c.count_on.ensures,

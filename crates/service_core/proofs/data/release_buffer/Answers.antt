@@ -1,11 +1,12 @@
 use Rattle.std.proofs.Common.{[], ◌∷◌, refl, arith, length}
+use Rattle.std.specs.Vec.{with_item}
 use Rattle.std.proofs.lemmas.Result.{err_from_is_err_and}
 use Rattle.ca_stage.specs.Moves.{released, of_client}
 use Rattle.ca_machine.specs.Plan.{granted}
 use Rattle.ca_machine.specs.Data.{frames_released}
 use Rattle.client_state.specs.declared.check.DataCall.TheVariants as data_call
 use Rattle.service_core.proofs.DataSteps.{data_refused}
-use Rattle.service_core.proofs.DataBoards.{looked_order, refused_goes, released_goes, released_order}
+use Rattle.service_core.proofs.DataBoards.{looked_order, refused_goes, released_goes, released_order, released_sides}
 use Rattle.service_core.proofs.data.release_buffer.Goals as goal
 
 pub returns-in_err-at-clause-goes : goal.returns-in_err-at-clause-goes
@@ -55,6 +56,20 @@ returns-clause-order g c =
     released_order g.D.Devices.faults g.D.Devices.told g.F.FrameStore.kept g.F.EngineSide.state g.met.F.FrameStore.whole
     c.args.conn.0 c.args.client.0 c.args.board.now _ c.in_ok-at.at c.index_mut.result.now c.release.new.entry
     c.requires.order c.requires.sides c.in_ok-at.ensures.found c.index_mut.ensures.value
+    (record { devices = refl; book = refl; seats = refl; seat_room = refl; draft_room = refl; entries = refl; room = refl })
+    c.in_ok-release.ensures.released.same
+    (frames_released c.args.frames c.args.flags c.args.bytes.now) c.args.frames c.args.flags
+    (length c.args.bytes.now) (omega arith) c.in_ok-release.ensures.released c.in_ok-release.ensures.row
+
+pub returns-clause-sides : goal.returns-clause-sides
+returns-clause-sides g c =
+    released_sides g.D.Devices.faults g.D.Devices.told g.F.FrameStore.kept g.F.EngineSide.state g.met.F.FrameStore.whole
+    c.args.conn.0 c.args.client.0 c.args.board.now
+    (record (c.args.board.now) {
+      entries = with_item c.args.board.now.entries c.in_ok-at.at c.release.new.entry;
+    })
+    c.in_ok-at.at c.index_mut.result.now c.release.new.entry c.requires.order c.requires.sides
+    c.in_ok-at.ensures.found c.index_mut.ensures.value
     (record { devices = refl; book = refl; seats = refl; seat_room = refl; draft_room = refl; entries = refl; room = refl })
     c.in_ok-release.ensures.released.same
     (frames_released c.args.frames c.args.flags c.args.bytes.now) c.args.frames c.args.flags

@@ -1,11 +1,12 @@
-use Rattle.std.proofs.Common.{◌*◌, ◌∙◌, ap, sym, None, arith, refl}
+use Rattle.std.proofs.Common.{◌∙◌, ap₂, sym, subst, None, arith, refl}
 use Rattle.std.proofs.lemmas.Option.{none-some}
 use Rattle.std.proofs.lemmas.Result.{err_from_is_err_and}
 use Rattle.ca_machine.specs.Devices.{add_plan, new_endpoint}
 use Rattle.wave_format.specs.declared.format.Format.{Format}
 use Rattle.wave_format.proofs.FormatLaws.{read-valid}
+use Rattle.period_engine.specs.Sounds.{IsBlockFor}
 use Rattle.service_board.specs.Does.{AnyData}
-use Rattle.service_board.proofs.AddDoes.{add_does, added_order, free_to_add, no_memory}
+use Rattle.service_board.proofs.AddDoes.{add_does, added_order, flow_is, free_to_add, no_memory, seat_made}
 use Rattle.service_board.proofs.AddRows.{free_rows, read_is}
 use Rattle.service_board.proofs.Doing.{refused_does}
 use Rattle.service_board.proofs.DuePeriods.{seats_length}
@@ -25,6 +26,11 @@ returns-in_default-clause-does g c =
     c.args.name.now c.in_ok-format.ensures.free g.D.Devices.faults g.D.Devices.told g.E.EngineSide.moves
     g.met.E.EngineSide.none
 
+pub flow_of-requires : goal.flow_of-requires
+flow_of-requires g c =
+    (free_to_add g.E.EngineSide.state c.args.self.now c.requires.order c.args.number.0 c.args.flow c.args.format.now
+    c.args.name.now c.in_ok-format.ensures.free).2
+
 pub add-requires-clause-format : goal.add-requires-clause-format
 add-requires-clause-format g c = read-valid c.args.format.now c.in_ok-format.format c.in_ok-format.ensures.format
 
@@ -36,7 +42,7 @@ unreachable-requires g c =
     c.in_ok-format.ensures.free in
     none-some c.in_default-add.field-0
     (sym (c.in_default-add.ensures.says
-    ∙ free_rows b.book.registry c.args.number.0 free))
+    ∙ free_rows b.book.registry c.args.number.0 (free.0, free.1)))
 
 pub push_reserved-requires : goal.push_reserved-requires
 push_reserved-requires g c =
@@ -57,11 +63,15 @@ returns-clause-does g c =
     add_does g.E.EngineSide.state b c.requires.order number c.args.flow bytes c.args.name.now
     c.in_ok-format.ensures.free
     (record b { book = record (b.book) { registry = c.add.new.self }; seats = c.push_reserved.new.self })
-    (record (new_endpoint number bytes c.args.name.now) { format = format })
+    (record (new_endpoint number c.args.flow bytes c.args.name.now) { format = format; flow = c.flow_of.result })
     (record { endpoint = c.args.number; next = 0; block = c.in-Ok.block }) c.in-Ok-add.ensures.now
     c.push_reserved.ensures.items
-    (ap (λ (f : Format). record (new_endpoint number bytes c.args.name.now) { format = f })
-    (read_is bytes format c.in_ok-format.ensures.format).1)
+    (ap₂ (λ (f : Format) flow. record (new_endpoint number c.args.flow bytes c.args.name.now) {
+      format = f;
+      flow = flow;
+    })
+    (read_is bytes format c.in_ok-format.ensures.format).1
+    (flow_is c.flow_of.result c.args.flow c.flow_of.ensures))
     refl g.D.Devices.faults g.D.Devices.told g.E.EngineSide.moves g.met.E.EngineSide.none
 
 pub returns-clause-order : goal.returns-clause-order
@@ -73,18 +83,18 @@ returns-clause-order g c =
     added_order g.E.EngineSide.state b c.requires.order number c.args.flow bytes c.args.name.now
     c.in_ok-format.ensures.free
     (record b { book = record (b.book) { registry = c.add.new.self }; seats = c.push_reserved.new.self })
-    (record (new_endpoint number bytes c.args.name.now) { format = format })
+    (record (new_endpoint number c.args.flow bytes c.args.name.now) { format = format; flow = c.flow_of.result })
     (record { endpoint = c.args.number; next = 0; block = c.in-Ok.block }) c.in-Ok-add.ensures.now
     c.push_reserved.ensures.items
-    (ap (λ (f : Format). record (new_endpoint number bytes c.args.name.now) { format = f })
-    (read_is bytes format c.in_ok-format.ensures.format).1)
-    refl c.push_reserved.ensures.capacity
-    (record {
-      number = refl;
-      next = omega arith;
-      block =
-          let size = c.in-Ok.ensures in
-          let frames = ap (λ n. n * format.channels) (sym c.period_frames.ensures) in
-          omega (arith, size, frames);
-      format = read-valid bytes format c.in_ok-format.ensures.format;
+    (ap₂ (λ (f : Format) flow. record (new_endpoint number c.args.flow bytes c.args.name.now) {
+      format = f;
+      flow = flow;
     })
+    (read_is bytes format c.in_ok-format.ensures.format).1
+    (flow_is c.flow_of.result c.args.flow c.flow_of.ensures))
+    refl c.push_reserved.ensures.capacity
+    (seat_made (record { endpoint = c.args.number; next = 0; block = c.in-Ok.block })
+    (record (new_endpoint number c.args.flow bytes c.args.name.now) { format = format; flow = c.flow_of.result }) refl
+    (omega arith)
+    (subst (λ n. IsBlockFor n format.channels c.in-Ok.block) c.period_frames.ensures c.in-Ok.ensures)
+    (read-valid bytes format c.in_ok-format.ensures.format))

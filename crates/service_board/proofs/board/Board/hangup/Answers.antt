@@ -15,7 +15,8 @@ use Rattle.service_board.specs.Does.{AnyData}
 use Rattle.service_board.specs.declared.board.Board.{Board}
 use Rattle.service_board.proofs.Doing.{refused_does}
 use Rattle.service_board.proofs.Granting.{granted_does}
-use Rattle.service_board.proofs.LeavingState.{are_closed, leaving_made, leaving_steps, none_closed, state_left}
+use Rattle.service_board.proofs.LeavingState.{are_closed, leaving_made, leaving_packed, leaving_steps}
+use Rattle.service_board.proofs.LeavingState.{none_closed, state_left}
 use Rattle.service_board.proofs.LeavingOrder.{apart_left, order_left, owned_left}
 use Rattle.service_board.proofs.Connecting.{known_within}
 use Rattle.service_board.proofs.board.Board.hangup.Goals as goal
@@ -71,6 +72,7 @@ returns-clause-does g c =
     hr.S_OK [] (leaving_steps moves old new book test forgets left rises)
     (λ st. tally_after st.tally st.stage (closes (filter test old.book.clients.items)))
     (leaving_made moves old new book test forgets left rises None g.met.E.EngineSide.none)
+    (leaving_packed moves old new book test forgets left rises)
     (ap (λ b. b.devices) forgets.rest)
     (λ datas tally. record {
       passes = c.in_ok-known.ensures datas tally;

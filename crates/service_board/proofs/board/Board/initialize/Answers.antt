@@ -59,7 +59,7 @@ returns-clause-order g c =
     ∙ ap (insert entries (position_or_len (is_above client) entries)) c.entry_of-entry.ensures in
     opened_order g.E.EngineSide.state c.args.x.now c.args.self.now c.args.plan.now c.requires.planned
     c.requires.order (position_or_len (is_above client) entries) c.join-session.result c.in-Some.store splits _
-    (subst (λ o. IfSome o (IsNewStore g.E.EngineSide.state c.args.plan.now.buffer)) c.in-Some.is c.requires.store)
+    (subst (λ o. IfSome o (IsNewStore g.E.EngineSide.state c.args.plan.now)) c.in-Some.is c.requires.store)
     refl refl c.join-session.ensures items c.in-Ok.ensures.capacity
 
 pub returns-clause-enters : goal.returns-clause-enters

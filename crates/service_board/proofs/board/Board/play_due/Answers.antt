@@ -1,42 +1,32 @@
-use Rattle.std.proofs.Common.{◌∙◌, None, false, true, arith, refl, sym}
+use Rattle.std.proofs.Common.{◌∙◌, length, false, arith, sym}
 use Rattle.std.proofs.lemmas.Option.{none-some}
-use Rattle.std.proofs.lemmas.Result.{err_from_is_err_and}
-use Rattle.ca_machine.specs.Periods.{period_plan}
-use Rattle.service_board.specs.Does.{AnyData}
 use Rattle.service_board.proofs.Closable.{picked_closable}
-use Rattle.service_board.proofs.Doing.{refused_does}
 use Rattle.service_board.proofs.PeriodEnds.{failed_does, failed_order, whole_does, whole_order}
-use Rattle.service_board.proofs.PeriodNeeds.{block_fits, endpoint_within, entries_playable, few_channels, its_ends}
-use Rattle.service_board.proofs.PeriodNeeds.{next_fits, no_state_row, seat_within}
+use Rattle.service_board.proofs.PeriodNeeds.{block_fits, end_gains, endpoint_within, entries_feed, entries_playable}
+use Rattle.service_board.proofs.PeriodNeeds.{feed_fits, few_channels, its_ends, next_fits, no_state_row, same_size}
+use Rattle.service_board.proofs.PeriodNeeds.{seat_within}
 use Rattle.service_board.proofs.PeriodNotes.{noted_sounded}
-use Rattle.service_board.proofs.Sounding.{entries_read, few_left, sounded_plays}
+use Rattle.service_board.proofs.Sounding.{entries_read, feeds_left, few_left, heard_plays, sounded_plays}
 use Rattle.service_board.proofs.board.Board.play_due.Goals as goal
-
-pub returns-in_err-at-clause-does : goal.returns-in_err-at-clause-does
-returns-in_err-at-clause-does g c =
-    let p = err_from_is_err_and c.from_residual.result c.from_residual.ensures.1 in
-    rw (p.1, p.2) (refused_does g.D.Devices.faults g.D.Devices.told g.E.EngineSide.moves None AnyData
-    g.met.E.EngineSide.none c.args.self.now (λ st. period_plan st c.args.e.0) c.in_err-at.field-0.0
-    c.in_err-at.ensures.refused)
 
 pub endpoint-endpoint-requires : goal.endpoint-endpoint-requires
 endpoint-endpoint-requires g c =
     let within =
-    endpoint_within g.E.EngineSide.state c.args.self.now c.requires.order c.args.e.0 c.in_ok-at.at
-    c.in_ok-at.ensures.found in
+    endpoint_within g.E.EngineSide.state c.args.self.now c.requires.order c.args.e.0 c.args.at
+    c.requires.found in
     omega arith
 
 pub shared_ref_as_front-ends : goal.shared_ref_as_front-ends
 shared_ref_as_front-ends g c =
-    few_channels g.E.EngineSide.state c.args.self.now c.requires.order c.args.e.0 c.in_ok-at.at
-    c.in_ok-at.ensures.found c.endpoint-endpoint.result.now c.endpoint-endpoint.ensures c.period_frames-frames.result
+    few_channels g.E.EngineSide.state c.args.self.now c.requires.order c.args.e.0 c.args.at
+    c.requires.found c.endpoint-endpoint.result.now c.endpoint-endpoint.ensures c.period_frames-frames.result
     c.period_frames-frames.ensures
 
 pub index_mut-seat-requires : goal.index_mut-seat-requires
 index_mut-seat-requires g c =
     let within =
-    seat_within g.E.EngineSide.state c.args.self.now c.requires.order c.args.e.0 c.in_ok-at.at
-    c.in_ok-at.ensures.found in
+    seat_within g.E.EngineSide.state c.args.self.now c.requires.order c.args.e.0 c.args.at
+    c.requires.found in
     omega arith
 
 pub play-requires-clause-entries : goal.play-requires-clause-entries
@@ -47,25 +37,41 @@ play-requires-clause-entries g c =
 pub play-requires-clause-playable : goal.play-requires-clause-playable
 play-requires-clause-playable g c =
     rw c.deref_mut-entries.ensures.value (entries_playable g.E.EngineSide.state c.args.self.now c.requires.order
-    c.args.e.0 c.in_ok-at.at c.in_ok-at.ensures.found c.endpoint-endpoint.result.now c.endpoint-endpoint.ensures
+    c.args.e.0 c.args.at c.requires.found c.endpoint-endpoint.result.now c.endpoint-endpoint.ensures
     c.period_frames-frames.result c.period_frames-frames.ensures)
 
 pub play-requires-clause-ends : goal.play-requires-clause-ends
 play-requires-clause-ends g c =
-    its_ends g.E.EngineSide.state c.args.self.now c.requires.order c.args.e.0 c.in_ok-at.at c.in_ok-at.ensures.found
+    its_ends g.E.EngineSide.state c.args.self.now c.requires.order c.args.e.0 c.args.at c.requires.found
     c.endpoint-endpoint.result.now c.endpoint-endpoint.ensures c.period_frames-frames.result
     c.period_frames-frames.ensures
 
 pub play-requires-clause-block : goal.play-requires-clause-block
 play-requires-clause-block g c =
-    block_fits g.E.EngineSide.state c.args.self.now c.requires.order c.args.e.0 c.in_ok-at.at c.in_ok-at.ensures.found
+    block_fits g.E.EngineSide.state c.args.self.now c.requires.order c.args.e.0 c.args.at c.requires.found
     c.endpoint-endpoint.result.now c.endpoint-endpoint.ensures c.period_frames-frames.result
     c.period_frames-frames.ensures c.index_mut-seat.result.now c.index_mut-seat.ensures.value
+
+pub feed_loopback-requires-clause-feedable : goal.feed_loopback-requires-clause-feedable
+feed_loopback-requires-clause-feedable g c = (
+  length (end_gains c.endpoint-endpoint.result.now.format.channels),
+  feed_fits g.E.EngineSide.state c.args.self.now c.requires.order c.args.e.0 c.args.at c.requires.found
+      c.endpoint-endpoint.result.now c.endpoint-endpoint.ensures c.period_frames-frames.result
+      c.period_frames-frames.ensures c.index_mut-seat.result.now c.index_mut-seat.ensures.value c.play.new.block
+      c.in-Ok.ensures.block,
+  feeds_left g.E.EngineSide.moves g.E.EngineSide.state c.args.self.now c.requires.order
+      c.deref_mut-entries.result.now c.deref_mut-entries.ensures.value g.met.E.EngineSide.joins c.args.e.0
+      c.period_frames-frames.result _ c.play.new.block.bytes c.play.new.all c.retire.new.all _ _ _ _
+      c.in-Ok.ensures.sounds c.retire.ensures.turned
+      (rw c.deref_mut-entries.ensures.value (entries_feed g.E.EngineSide.state c.args.self.now c.requires.order
+      c.args.e.0 c.args.at c.requires.found c.endpoint-endpoint.result.now c.endpoint-endpoint.ensures
+      c.period_frames-frames.result c.period_frames-frames.ensures)),
+)
 
 pub overflow_add-seat : goal.overflow_add-seat
 overflow_add-seat g c =
     let within =
-    next_fits g.E.EngineSide.state c.args.self.now c.requires.order c.args.e.0 c.in_ok-at.at c.in_ok-at.ensures.found
+    next_fits g.E.EngineSide.state c.args.self.now c.requires.order c.args.e.0 c.args.at c.requires.found
     c.endpoint-endpoint.result.now c.endpoint-endpoint.ensures c.period_frames-frames.result
     c.period_frames-frames.ensures c.index_mut-seat.result.now c.index_mut-seat.ensures.value in
     omega arith
@@ -74,7 +80,7 @@ pub unreachable-requires : goal.unreachable-requires
 unreachable-requires g c =
     none-some c.in_default.field-0
     (sym (c.in_default.ensures.says
-    ∙ no_state_row c.args.self.now c.args.e.0 c.in_ok-at.at c.in_ok-at.ensures.found))
+    ∙ no_state_row c.args.self.now c.args.e.0 c.args.at c.requires.found))
 
 pub close_failed-requires-clause-few : goal.close_failed-requires-clause-few
 close_failed-requires-clause-few g c =
@@ -86,55 +92,62 @@ close_failed-requires-clause-closable g c =
     picked_closable g.E.EngineSide.state c.args.e.0 c.period_frames-frames.result c.play.new.all
     c.in-Err.ensures.picked
 
-pub returns-in_err-at-clause-notes : goal.returns-in_err-at-clause-notes
-returns-in_err-at-clause-notes g c =
-    let p = err_from_is_err_and c.from_residual.result c.from_residual.ensures.1 in
-    rw p.1 (λ datas tally. refl)
-
 pub returns-in-Ok-clause-does : goal.returns-in-Ok-clause-does
 returns-in-Ok-clause-does g c =
     whole_does g.D.Devices.faults g.D.Devices.told g.E.EngineSide.moves g.E.EngineSide.state c.args.self.now
-    c.requires.order c.args.e.0 c.in_ok-at.at c.in_ok-at.ensures.found c.play.new.devices c.deref_mut-entries.result.now
-    c.retire.new.all c.endpoint-endpoint.result.now c.period_frames-frames.result c.index_mut-seat.result.now
-    c.play.new.block
+    c.requires.order c.args.e.0 c.args.at c.requires.found c.play.new.devices c.deref_mut-entries.result.now
+    c.feed_loopback.new.all c.endpoint-endpoint.result.now c.period_frames-frames.result c.index_mut-seat.result.now
+    c.feed_loopback.new.block
     (record {
       old = c.deref_mut-entries.ensures.value;
-      size = c.retire.auto.all ∙ c.play.auto.all;
+      size = c.feed_loopback.auto.all ∙ c.retire.auto.all ∙ c.play.auto.all;
       endpoint = c.endpoint-endpoint.ensures;
       frames_are = c.period_frames-frames.ensures;
       seat = c.index_mut-seat.ensures.value;
-      block_is = c.in-Ok.ensures.block;
+      block_is =
+          same_size c.index_mut-seat.result.now.block c.play.new.block c.feed_loopback.new.block c.in-Ok.ensures.block
+          c.feed_loopback.ensures.block;
     })
-    (sounded_plays g.E.EngineSide.moves g.E.EngineSide.state c.args.self.now c.requires.order
+    (heard_plays g.E.EngineSide.moves g.E.EngineSide.state c.args.self.now c.requires.order
     c.deref_mut-entries.result.now c.deref_mut-entries.ensures.value g.met.E.EngineSide.joins c.args.e.0
-    c.period_frames-frames.result true _ c.play.new.all c.retire.new.all _ _ _ _ c.in-Ok.ensures.sounds
-    c.in-Ok.ensures.picked c.retire.ensures.turned)
-    c.retire.ensures.rested c.requires.fresh
+    c.period_frames-frames.result _ c.play.new.block.bytes c.play.new.all c.retire.new.all _ _ _ _
+    c.in-Ok.ensures.sounds c.retire.ensures.turned c.feed_loopback.new.all c.in-Ok.ensures.picked
+    (rw c.deref_mut-entries.ensures.value (entries_feed g.E.EngineSide.state c.args.self.now c.requires.order
+    c.args.e.0 c.args.at c.requires.found c.endpoint-endpoint.result.now c.endpoint-endpoint.ensures
+    c.period_frames-frames.result c.period_frames-frames.ensures))
+    (c.feed_loopback.ensures.turned (length (end_gains c.endpoint-endpoint.result.now.format.channels))))
+    c.feed_loopback.ensures.rested c.requires.plays c.requires.fresh
 
 pub returns-in-Ok-clause-order : goal.returns-in-Ok-clause-order
 returns-in-Ok-clause-order g c =
     whole_order g.D.Devices.faults g.D.Devices.told g.E.EngineSide.moves g.E.EngineSide.state c.args.self.now
-    c.requires.order c.args.e.0 c.in_ok-at.at c.in_ok-at.ensures.found c.play.new.devices c.deref_mut-entries.result.now
-    c.retire.new.all c.endpoint-endpoint.result.now c.period_frames-frames.result c.index_mut-seat.result.now
-    c.play.new.block
+    c.requires.order c.args.e.0 c.args.at c.requires.found c.play.new.devices c.deref_mut-entries.result.now
+    c.feed_loopback.new.all c.endpoint-endpoint.result.now c.period_frames-frames.result c.index_mut-seat.result.now
+    c.feed_loopback.new.block
     (record {
       old = c.deref_mut-entries.ensures.value;
-      size = c.retire.auto.all ∙ c.play.auto.all;
+      size = c.feed_loopback.auto.all ∙ c.retire.auto.all ∙ c.play.auto.all;
       endpoint = c.endpoint-endpoint.ensures;
       frames_are = c.period_frames-frames.ensures;
       seat = c.index_mut-seat.ensures.value;
-      block_is = c.in-Ok.ensures.block;
+      block_is =
+          same_size c.index_mut-seat.result.now.block c.play.new.block c.feed_loopback.new.block c.in-Ok.ensures.block
+          c.feed_loopback.ensures.block;
     })
-    (sounded_plays g.E.EngineSide.moves g.E.EngineSide.state c.args.self.now c.requires.order
+    (heard_plays g.E.EngineSide.moves g.E.EngineSide.state c.args.self.now c.requires.order
     c.deref_mut-entries.result.now c.deref_mut-entries.ensures.value g.met.E.EngineSide.joins c.args.e.0
-    c.period_frames-frames.result true _ c.play.new.all c.retire.new.all _ _ _ _ c.in-Ok.ensures.sounds
-    c.in-Ok.ensures.picked c.retire.ensures.turned)
-    c.retire.ensures.rested
+    c.period_frames-frames.result _ c.play.new.block.bytes c.play.new.all c.retire.new.all _ _ _ _
+    c.in-Ok.ensures.sounds c.retire.ensures.turned c.feed_loopback.new.all c.in-Ok.ensures.picked
+    (rw c.deref_mut-entries.ensures.value (entries_feed g.E.EngineSide.state c.args.self.now c.requires.order
+    c.args.e.0 c.args.at c.requires.found c.endpoint-endpoint.result.now c.endpoint-endpoint.ensures
+    c.period_frames-frames.result c.period_frames-frames.ensures))
+    (c.feed_loopback.ensures.turned (length (end_gains c.endpoint-endpoint.result.now.format.channels))))
+    c.feed_loopback.ensures.rested
 
 pub returns-in-Ok-set_state-clause-does : goal.returns-in-Ok-set_state-clause-does
 returns-in-Ok-set_state-clause-does g c =
     failed_does g.D.Devices.faults g.D.Devices.told g.E.EngineSide.moves g.E.EngineSide.state c.args.self.now
-    c.requires.order c.args.e.0 c.in_ok-at.at c.in_ok-at.ensures.found c.play.new.devices c.deref_mut-entries.result.now
+    c.requires.order c.args.e.0 c.args.at c.requires.found c.play.new.devices c.deref_mut-entries.result.now
     c.close_failed.new.all c.endpoint-endpoint.result.now c.period_frames-frames.result c.index_mut-seat.result.now
     c.play.new.block
     (record {
@@ -147,16 +160,16 @@ returns-in-Ok-set_state-clause-does g c =
     })
     (sounded_plays g.E.EngineSide.moves g.E.EngineSide.state c.args.self.now c.requires.order
     c.deref_mut-entries.result.now c.deref_mut-entries.ensures.value g.met.E.EngineSide.joins c.args.e.0
-    c.period_frames-frames.result false _ c.play.new.all c.close_failed.new.all _ _ _ _ c.in-Err.ensures.sounds
+    c.period_frames-frames.result false _ _ c.play.new.all c.close_failed.new.all _ _ _ _ c.in-Err.ensures.sounds
     c.in-Err.ensures.picked c.close_failed.ensures.turned)
     c.close_failed.ensures.rested c.set_state.new.self c.in-Ok-set_state.ensures.now
     c.close_failed.new.before
-    c.requires.fresh
+    c.requires.plays c.requires.fresh
 
 pub returns-in-Ok-set_state-clause-order : goal.returns-in-Ok-set_state-clause-order
 returns-in-Ok-set_state-clause-order g c =
     failed_order g.D.Devices.faults g.D.Devices.told g.E.EngineSide.moves g.E.EngineSide.state c.args.self.now
-    c.requires.order c.args.e.0 c.in_ok-at.at c.in_ok-at.ensures.found c.play.new.devices c.deref_mut-entries.result.now
+    c.requires.order c.args.e.0 c.args.at c.requires.found c.play.new.devices c.deref_mut-entries.result.now
     c.close_failed.new.all c.endpoint-endpoint.result.now c.period_frames-frames.result c.index_mut-seat.result.now
     c.play.new.block
     (record {
@@ -169,7 +182,7 @@ returns-in-Ok-set_state-clause-order g c =
     })
     (sounded_plays g.E.EngineSide.moves g.E.EngineSide.state c.args.self.now c.requires.order
     c.deref_mut-entries.result.now c.deref_mut-entries.ensures.value g.met.E.EngineSide.joins c.args.e.0
-    c.period_frames-frames.result false _ c.play.new.all c.close_failed.new.all _ _ _ _ c.in-Err.ensures.sounds
+    c.period_frames-frames.result false _ _ c.play.new.all c.close_failed.new.all _ _ _ _ c.in-Err.ensures.sounds
     c.in-Err.ensures.picked c.close_failed.ensures.turned)
     c.close_failed.ensures.rested c.set_state.new.self c.in-Ok-set_state.ensures.now
     c.close_failed.new.before
@@ -177,6 +190,6 @@ returns-in-Ok-set_state-clause-order g c =
 pub returns-in-Ok-set_state-clause-notes : goal.returns-in-Ok-set_state-clause-notes
 returns-in-Ok-set_state-clause-notes g c = λ datas tally.
     c.close_failed.ensures.notes
-    ∙ noted_sounded g.E.EngineSide.moves c.args.self.now c.args.e.0 c.period_frames-frames.result _ false
+    ∙ noted_sounded g.E.EngineSide.moves c.args.self.now c.args.e.0 c.period_frames-frames.result _ _ false
     c.deref_mut-entries.result.now c.play.new.all _ _ _ _ c.deref_mut-entries.ensures.value
     c.in-Err.ensures.sounds datas tally

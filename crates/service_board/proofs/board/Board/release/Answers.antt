@@ -9,7 +9,8 @@ use Rattle.service_book.specs.InOrder.{IsOwned}
 use Rattle.service_board.specs.Does.{AnyData}
 use Rattle.service_board.proofs.Doing.{refused_does}
 use Rattle.service_board.proofs.Granting.{granted_does}
-use Rattle.service_board.proofs.LeavingState.{are_closed, leaving_made, leaving_steps, none_closed, state_left}
+use Rattle.service_board.proofs.LeavingState.{are_closed, leaving_made, leaving_packed, leaving_steps}
+use Rattle.service_board.proofs.LeavingState.{none_closed, state_left}
 use Rattle.service_board.proofs.LeavingOrder.{order_left}
 use Rattle.service_board.proofs.board.Board.release.Goals as goal
 
@@ -38,6 +39,7 @@ returns-clause-does g c =
     (leaving_steps moves old new book test forgets left rises)
     (λ st. tally_after st.tally st.stage (closes (filter test old.book.clients.items)))
     (leaving_made moves old new book test forgets left rises None g.met.E.EngineSide.none)
+    (leaving_packed moves old new book test forgets left rises)
     (ap (λ b. b.devices) forgets.rest)
     (λ datas tally. record {
       passes = c.in_ok-live_client.ensures.found.says datas tally;

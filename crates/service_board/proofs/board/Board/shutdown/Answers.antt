@@ -48,6 +48,6 @@ returns-clause-order g c =
     let order = c.requires.order in
     disconnected_order g.E.EngineSide.moves g.E.EngineSide.state b order true Shutdown None c.disconnect.new.entries
     c.disconnect.ensures (record (b.book) { is_shut = true }) b.seats refl refl refl
-    (λ n channels position left on. absurd (true≢false left)) order.seats
+    (λ e left on. absurd (true≢false left)) order.seats
     (other_book b.book b.book.registry b.book.choices true order.book.endpoints order.book.added order.book)
     order.seat_room

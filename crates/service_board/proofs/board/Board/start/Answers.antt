@@ -47,7 +47,7 @@ returns-clause-does g c =
       entries = refl;
       room = refl;
     })
-    refl [] (g.met.E.EngineSide.none c.index_mut.result.now.store) start_rows (λ d. Unit {0}) started
+    refl [] (g.met.E.EngineSide.none c.index_mut.result.now.store) tt start_rows (λ d. Unit {0}) started
     (λ d agrees knows. ap (λ e. if e.running then Some hr.NOT_STOPPED else None) same
     ∙ ap (λ b. if b then Some hr.NOT_STOPPED else None) c.if-index.false)
     (λ d agrees knows. refl)
@@ -71,4 +71,4 @@ returns-clause-order g c =
     (same_running true c.index_mut.result.now)
     (rested_running g.E.EngineSide.state true c.index_mut.result.now
     (rested_at g.E.EngineSide.state c.args.self.now c.in_ok-at.at c.index_mut.result.now there.here c.requires.order))
-    (le_refl c.index_mut.result.now.position) c.requires.order
+    (le_refl c.index_mut.result.now.position) (le_refl c.index_mut.result.now.ever) c.requires.order

@@ -2,7 +2,7 @@ use Rattle.std.proofs.Common.{false, sym, true}
 use Rattle.wave_format.specs.Format.{spelled}
 use Rattle.wave_format.proofs.FormatLaws.{read-valid}
 use Rattle.ca_machine.specs.Streams.{fault_of}
-use Rattle.service_book.proofs.Joining.{faulty_says, format_says, malformed_says, matched_channels, read_format_is}
+use Rattle.service_book.proofs.Joining.{faulty_says, format_says, malformed_says, matched_channels, matched_rate, read_format_is}
 use Rattle.service_book.proofs.opening.Opening.format_for.Goals as goal
 
 pub returns-then-fault-le2-clause-says : goal.returns-then-fault-le2-clause-says
@@ -32,4 +32,5 @@ returns-clause-format c = record {
       c.in-Ok.ensures).1;
   valid = read-valid c.args.self.now.format.now c.in-Ok.format (sym c.in-Ok.ensures);
   channels = matched_channels c.args.endpoint.now c.in-Ok.format c.if-not-matches.ensures;
+  rate = matched_rate c.args.endpoint.now c.in-Ok.format c.if-not-matches.ensures;
 }

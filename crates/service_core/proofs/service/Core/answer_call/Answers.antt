@@ -75,3 +75,7 @@ returns-in-GetSession-clause-answers g c =
     (told_code c.get_session.result) c.get_session.new.out.list
     (λ st. keeps_event st (event.Call conn 0 (call.GetSession s)) tt) AnyData c.get_session.ensures.does tt
     (λ st. tally_of_get st conn.0 s.0) (tally_of own.inside.tally)))
+
+pub returns-in-CaptureGetBuffer-clause-answers : goal.returns-in-CaptureGetBuffer-clause-answers
+returns-in-CaptureGetBuffer-clause-answers g c =
+    rw c.in-CaptureGetBuffer.is c.capture_get_buffer.ensures.answers

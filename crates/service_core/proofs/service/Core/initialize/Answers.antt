@@ -52,7 +52,8 @@ invariant_of-self g c = record {
   sides = sides_initialized g.F.FrameStore.kept c.args.x.now c.in_ok-plan.plan c.new_ends-ends.result
       c.self.inside.board
       c.initialize.new.self c.initialize.result c.initialize.ensures.enters c.initialize.ensures.stays
-      c.new_ends-ends.ensures c.in_ok-plan.ensures.planned.most c.self.invariant.sides;
+      c.new_ends-ends.ensures c.in_ok-plan.ensures.planned.most c.in_ok-plan.ensures.planned.format.valid
+      c.self.invariant.sides;
 }
 
 pub returns : goal.returns
@@ -71,5 +72,5 @@ returns g c =
     c.new_ends-ends.result (IsFresh x.client.0) old.board new (opening_plan x) code payload (tally_of old.tally)
     c.initialize.ensures.does c.self.invariant.order.order c.initialize.ensures.order.order (keeps x)
     (no_entry_data g.F.FrameStore.kept x.client.0 old.board.entries.items c.in_ok-plan.ensures.planned.fresh)
-    (given_is_fresh g.F.FrameStore.kept plan c.new_ends-ends.result c.new_ends-ends.ensures))
+    (given_is_fresh g.F.FrameStore.kept plan c.new_ends-ends.result c.new_ends-ends.ensures) c.self.invariant.sides)
     (λ st. tally_of_initialize st x.conn.0 x.client.0 (arguments x)))

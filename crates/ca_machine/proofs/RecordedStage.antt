@@ -1,0 +1,91 @@
+-- A period of an endpoint that captures is one map over the streams; it adds to the tally only if its device failed.
+use Rattle.std.proofs.Common.{◌≡◌, ℕ, ◌≤◌, ◌==◌, List, [], map, Bool, true, false, refl, sym, ap, ap₂, ◌∙◌, sum_by}
+use Rattle.std.proofs.Common.{if◌then◌else◌}
+use Rattle.std.proofs.lemmas.Bool.{and_parts}
+use Rattle.ca_base.specs.declared.ids.Reason.TheVariants.{Removal}
+use Rattle.ca_base.specs.declared.limits.TheConstants.{MAX_TALLY}
+use Rattle.ca_stage.specs.Stage.{Frame, Stream, Stage, padding, is_open}
+use Rattle.ca_stage.specs.Moves.{closed, moved, after_moves}
+use Rattle.ca_stage.specs.Periods.{captures, fed_if, is_open_on, is_recording, open_streams_on}
+use Rattle.ca_stage.specs.Given.{frames_given, whole_frames}
+use Rattle.ca_stage.specs.Tally.{Tally, counted, tally_after}
+use Rattle.ca_stage.specs.Order.{clients, RisesFrom}
+use Rattle.ca_stage.proofs.Lists.{map_same}
+use Rattle.ca_stage.proofs.Clients.{rising_distinct}
+use Rattle.ca_stage.proofs.Feeds.{capture_by, tally_of_captures}
+use Rattle.ca_stage.proofs.MapMoves.{kept_moved, playheads_left}
+use Rattle.ca_stage.proofs.MapPeriods.{kept_tally}
+use Rattle.ca_stage.proofs.MapTallies.{amount_where, closed_adds, more_dropped}
+use Rattle.device_registry.specs.declared.endpoint.Endpoint.{Endpoint}
+use Rattle.ca_machine.specs.State.{State}
+use Rattle.ca_machine.specs.Plan.{Answer, bytes_given, is_whole}
+use Rattle.ca_machine.specs.Periods.{after_period, period_frames, recording, recording_moves}
+
+-- the frames of its packet
+abbrev pub frames_of : Endpoint → List ℕ → List Frame
+frames_of e bytes = frames_given (period_frames e) e.format.channels bytes
+
+-- what it makes of a stream, if its device gave these bytes: it is offered a packet, if it records the endpoint and one
+-- whole frame came
+abbrev pub fed_by : Endpoint → List ℕ → Stream → Stream
+fed_by e bytes s =
+    if whole_frames e.format.channels bytes == 0 then s else fed_if (is_recording e.no.0) (frames_of e bytes) s
+
+-- or if its device failed: it is closed, if it is on the endpoint
+abbrev pub lost_on : ℕ → Stream → Stream
+lost_on number s = if is_open_on number s then moved (closed Removal) s else s
+
+abbrev pub recorded : Endpoint → List ℕ → Bool → Stream → Stream
+recorded e bytes true s = fed_by e bytes s
+recorded e bytes false s = lost_on e.no.0 s
+
+module _ (e : Endpoint) (bytes : List ℕ) (st : Stage) where
+  on_is_open : (s : Stream) → is_open_on e.no.0 s ≡ true → is_open s ≡ true
+  on_is_open s o = (and_parts (s.endpoint == e.no.0) (is_open s) o).1
+
+  by_frames : RisesFrom 0 (clients st) → (b : Bool) →
+      after_moves st (if b then [] else captures e.no.0 (frames_of e bytes) st)
+      ≡ record st {
+        streams =
+            map (λ s. if b then s else fed_if (is_recording e.no.0) (frames_of e bytes) s) st.streams;
+      }
+  by_frames r true = ap (λ ss. record st { streams = ss }) (sym (map_same (λ s. s) (λ s. refl) st.streams))
+  by_frames r false = capture_by e.no.0 (frames_of e bytes) st r
+
+  pub recorded_stage : RisesFrom 0 (clients st) → (whole : Bool) →
+      after_moves st (recording_moves e bytes whole st)
+      ≡ record st { streams = map (recorded e bytes whole) st.streams }
+  recorded_stage r true = by_frames r (whole_frames e.format.channels bytes == 0)
+  recorded_stage r false =
+      ap₂ (λ heads streams. record { playheads = heads; streams = streams })
+      (playheads_left (closed Removal) (open_streams_on e.no.0 st) st)
+      (kept_moved (closed Removal) (is_open_on e.no.0) st (rising_distinct 0 _ r) on_is_open)
+
+  none_added : (t : Tally) (b : Bool) →
+      tally_after t st (if b then [] else captures e.no.0 (frames_of e bytes) st) ≡ t
+  none_added t true = refl
+  none_added t false = tally_of_captures e.no.0 (frames_of e bytes) st t
+
+  pub tally_recorded : (t : Tally) → tally_after t st (recording_moves e bytes true st) ≡ t
+  tally_recorded t = none_added t (whole_frames e.format.channels bytes == 0)
+
+  -- what the streams had pending is dropped
+  pub tally_lost : RisesFrom 0 (clients st) → (t : Tally) → t.dropped ≤ MAX_TALLY →
+      tally_after t st (recording_moves e bytes false st)
+      ≡ record t { dropped = counted t.dropped (sum_by (amount_where (is_open_on e.no.0) padding) st.streams) }
+  tally_lost r t l =
+      kept_tally (closed Removal) padding (λ t. t.dropped) more_dropped (closed_adds Removal) (is_open_on e.no.0) st t
+      r on_is_open l
+
+-- the state after it: its stage has this map over the streams, and the tally is as it was
+abbrev pub state_recorded : State → Endpoint → List ℕ → State
+state_recorded st e bytes =
+    record st { stage = record (st.stage) { streams = map (fed_by e bytes) st.stage.streams } }
+
+pub recorded_state : (st : State) (e : Endpoint) (given : List Answer) → RisesFrom 0 (clients st.stage) →
+    is_whole given ≡ true → (recording st e given).after ≡ state_recorded st e (bytes_given given)
+recorded_state st e given r w =
+    ap (λ whole. after_period e.no.0 whole
+    (Rattle.ca_machine.specs.Plan.moved (recording_moves e (bytes_given given) whole st.stage) st)) w
+    ∙ ap₂ (λ stage tally. record st { stage = stage; tally = tally })
+    (recorded_stage e (bytes_given given) st.stage r true) (tally_recorded e (bytes_given given) st.stage st.tally)
