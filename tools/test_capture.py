@@ -2,18 +2,16 @@
 
 The replies are made by hand, so no program is needed.
 """
-import subprocess
-import sys
 import tempfile
 import unittest
 import wave
 from pathlib import Path
 
-import sound_files
+import shown
 import wire
-from load_tool import load_tool
+from load_tool import load_tool, run_main
+from pehvonk import read_frames, samples_of
 
-TOOLS = Path(__file__).resolve().parent
 EMPTY = wire.RESULTS["S_BUFFER_EMPTY"]
 
 events = load_tool("events")
@@ -49,10 +47,6 @@ def packet(samples, flags=0, position=0):
     return (numbers + data).hex()
 
 
-def samples_of(data):
-    return [int.from_bytes(data[at:at + 2], "little", signed=True) for at in range(0, len(data), 2)]
-
-
 class Capture(unittest.TestCase):
     def setUp(self):
         folder = tempfile.TemporaryDirectory()
@@ -66,12 +60,11 @@ class Capture(unittest.TestCase):
         program.chmod(0o755)
         frames = b"".join(frame(*reply) for reply in OPENED_REPLIES + replies)
         (self.folder / "replies").write_bytes(frames)
-        command = [sys.executable, str(TOOLS / "events"), "run", "-", "--program", str(program), *options]
-        return subprocess.run(command, input=(OPENED + calls).encode(), capture_output=True)
+        return run_main(events, ("run", "-", "--program", str(program), *options), (OPENED + calls).encode())
 
     def ends(self, done, status, line):
-        self.assertEqual((done.returncode, done.stderr.decode()), (status, line))
-        return done.stdout.decode()
+        self.assertEqual((done[0], done[2]), (status, line))
+        return done[1]
 
     def wav(self, rate, channels, size, data):
         file = self.folder / "sound.wav"
@@ -97,7 +90,7 @@ class Shown(Capture):
         ]
         for name, result, payload, line in replies:
             with self.subTest(line):
-                self.assertEqual(events.reply_line(frame(3, result, payload)[4:], name), line)
+                self.assertEqual(shown.reply_line(frame(3, result, payload)[4:], name), line)
 
     def test_a_packet_has_its_fields(self):
         for payload in ("", "e0010000" "00000000" "00000000000000"):
@@ -135,8 +128,8 @@ class Input(Capture):
             with self.subTest(data[:12]):
                 file.write_bytes(data)
                 done = self.run_with("", [], "--input", f"2={file}")
-                self.assertEqual((done.returncode, done.stdout), (2, b""))
-                self.assertRegex(done.stderr.decode(), r"^\S+sound.WAV: no WAV file of plain samples \(.+\)\n$")
+                self.assertEqual(done[:2], (2, ""))
+                self.assertRegex(done[2], r"^\S+sound.WAV: no WAV file of plain samples \(.+\)\n$")
 
     def test_an_endpoint_that_does_not_capture(self):
         raw = self.folder / "sound.raw"
@@ -177,13 +170,13 @@ capturegetbuffer client=1
         wav, raw = self.folder / "heard.wav", self.folder / "heard.raw"
         for file in (wav, raw):
             self.ends(self.run_with(self.CALLS, self.REPLIES, "--captured", f"1={file}"), 0, "")
-        self.assertEqual(samples_of(raw.read_bytes()), [1, -2, 3, -4])
-        self.assertEqual(sound_files.frames_of(wav, 48000, 1), raw.read_bytes())
+        self.assertEqual(list(samples_of(raw.read_bytes())), [1, -2, 3, -4])
+        self.assertEqual(read_frames(wav, 48000, 1), raw.read_bytes())
 
     def test_a_client_that_read_nothing(self):
         wav = self.folder / "heard.wav"
         self.ends(self.run_with("", [], "--captured", f"1={wav}"), 0, "")
-        self.assertEqual(sound_files.frames_of(wav, 48000, 1), b"")
+        self.assertEqual(read_frames(wav, 48000, 1), b"")
 
     def test_a_client_without_a_stream(self):
         raw = self.folder / "heard.raw"
@@ -196,7 +189,7 @@ capturegetbuffer client=1
         cut = [(3, wire.S_OK, packet([1, -2])), (3, wire.S_OK, ""), (3, wire.S_OK, "01")]
         calls = "".join(self.CALLS.splitlines(True)[2:6:2] + self.CALLS.splitlines(True)[8:])
         self.run_with(calls, cut, "--captured", f"1={raw}")
-        self.assertEqual(samples_of(raw.read_bytes()), [1, -2])
+        self.assertEqual(list(samples_of(raw.read_bytes())), [1, -2])
 
     def test_a_file_that_cannot_be_written(self):
         for file in ("no/such.wav", "no/such.raw"):
@@ -211,8 +204,7 @@ class WrongWords(Capture):
                         ("--input", "2=x", "--input", "2=y"), ("--captured", "1=x", "--captured", "01=x")):
             with self.subTest(options):
                 done = self.run_with("", [], *options)
-                self.assertEqual((done.returncode, done.stdout), (2, b""))
-                self.assertRegex(done.stderr.decode(), r"^usage: events .*--captured CLIENT=FILE.*\n$")
+                self.assertEqual(self.ends(done, 2, events.USAGE + "\n"), "")
 
 
 if __name__ == "__main__":

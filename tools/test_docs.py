@@ -5,9 +5,10 @@
   the tools, or is one of OUTSIDE. A command in a block of `sh` or `console` has paths that are there.
 - Any other fenced block is a quote. The line of text before it ends with its file in backticks and a colon, and its
   lines are in that file, one after another. No block is made by indenting it.
+- A block of `script` in BENCH.md is a script; of the next block, which runs it, the lines are those that it prints.
 - In a table with the columns `function` and `file` each function is in one of the files of its row. The part of
   ARCHITECTURE.md on new calls names each file that the call Start is in.
-- The run that README.md shows is examples/hello.expected, with lines that the script of the first run has.
+- The run that README.md shows is examples/01-hello.expected, with lines that the script of the first run has.
 - The tables of tools/wire.py, and those of docs/RULES.md, have the values that the definitions have.
 """
 import ast
@@ -15,6 +16,7 @@ import os
 import re
 import textwrap
 import unittest
+from functools import lru_cache
 from pathlib import Path
 
 import wire
@@ -45,6 +47,7 @@ FILES = repository()
 FOLDERS = sorted({str(folder) for file in FILES for folder in Path(file).parents if str(folder) != "."})
 
 
+@lru_cache(maxsize=None)
 def text_of(path):
     return (TOP / path).read_text(encoding="utf-8")
 
@@ -67,9 +70,9 @@ def words_of_the_repository():
         name, ending = Path(file).name, Path(file).suffix
         if ending in COMMENT:
             text = re.sub(COMMENT[ending], "", text_of(file))
-        elif name in ("events", "bench", "wire.py"):
+        elif name in ("events", "bench") or ending == ".py" and not name.startswith("test_"):
             text = python_words(text_of(file))
-        elif name in ("first-run", "run", "crates.txt", "HANDLES"):
+        elif name in ("first-run", "run", "crates.txt", "HANDLES") or ending == ".script":
             text = re.sub(r"(?m)^ *#.*", "", text_of(file))
         else:
             text = ""
@@ -145,7 +148,7 @@ class Docs(unittest.TestCase):
     def test_quotes(self):
         for name, found in BLOCKS.items():
             for before, language, lines in found:
-                if language not in ("sh", "console"):
+                if language not in ("sh", "console", "script"):
                     with self.subTest(name, block=lines[:1]):
                         path = re.search(r"`([^`]+)`[^`]*:$", before)
                         self.assertTrue(path, f"no file is named at the end of the line before: {before}")
@@ -186,7 +189,7 @@ class Docs(unittest.TestCase):
     def test_the_run_in_the_readme(self):
         runs = [lines[1:] for _, _, lines in BLOCKS["README.md"] if lines[:1] == ["$ ./first-run"]]
         self.assertEqual(len(runs), 1, "README.md shows one run of ./first-run")
-        expected = text_of("examples/hello.expected").split("\n")[:-1]
+        expected = text_of("examples/01-hello.expected").split("\n")[:-1]
         self.assertEqual(runs[0][:len(expected)], expected)
         for line in runs[0][len(expected):]:
             self.assertIn(f'"{line}"', text_of("first-run"))
@@ -246,6 +249,11 @@ def fields_of(shape):
     return shape.fields[len(wire.fields_of(wire.HEADS.get(shape.kind, ""))) + 1 if shape.code else 0:]
 
 
+def shape_called(name):
+    """The shape of an event by its name in the definitions. None if it has none."""
+    return wire.SHAPES.get({"Release": "ReleaseClient"}.get(name, name))
+
+
 class Tables(unittest.TestCase):
     maxDiff = None
     SPELLING = text_of("crates/ca_model/specs/Spelling.antt")
@@ -268,9 +276,15 @@ class Tables(unittest.TestCase):
             self.assertEqual([code for _, code in names], [code for code, _ in rows])
             for (name, code), (_, listed) in zip(names, rows):
                 with self.subTest(name):
-                    shape = wire.SHAPES[name]
+                    shape = shape_called(name)
                     self.assertEqual((shape.kind, shape.code), (kind, int(code)))
                     self.has_fields(listed, [field.type for field in fields_of(shape)])
+
+    def test_events_that_come_later(self):
+        names = re.findall(r"(?m)^(?:call|device)_code \(\w+\.(\w+)", self.SPELLING)
+        live = {shape_called(name).name for name in names if name != "Other"}
+        live |= {shape_called(name).name for name in self.variants("Event")}
+        self.assertEqual(wire.LATER, set(wire.SHAPES) - live)
 
     def test_kinds_of_events(self):
         heads = re.findall(r"(?m)^kinds \(?event\.(\w+)[^)=]*\)? = ([\w ∷]+?)∷ (?:\[\]|or_rest .*)$", self.SPELLING)
@@ -329,7 +343,7 @@ class Tables(unittest.TestCase):
                          r"(?:(?P<code>\d+) \| )?(?P<fields>[^|]*) \|$")
         found = []
         for row in row.finditer(PROSE["RULES.md"]):
-            shape = wire.SHAPES.get(row["name"])
+            shape = shape_called(row["name"])
             if shape:
                 with self.subTest(row[0]):
                     fields = fields_of(shape) if row["kind"] or row["code"] else wire.PAYLOADS[shape.name, wire.S_OK]

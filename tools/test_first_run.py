@@ -58,7 +58,7 @@ class FirstRun(unittest.TestCase):
         self.assertEqual(sorted(file.name for file in self.folder.iterdir()), ["calls", "path"])
 
     def test_the_run_in_words(self):
-        run = (TOP / "examples/hello.expected").read_text() + AS_EXPECTED
+        run = (TOP / "examples/01-hello.expected").read_text() + AS_EXPECTED
         self.shows(self.run_with(), "try", run + UNPROVED)
         self.calls.unlink()
         self.shows(self.run_with("--proved"), "run", run)

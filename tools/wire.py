@@ -29,7 +29,7 @@ RESULTS = {
 SIZES = {  # the bytes of each type of numbers; a time is in units of 100 ns, a level is from 0 to FULL_LEVEL
     "u8": 1, "u16": 2, "u32": 4, "u64": 8, "length": 4, "kind": 1, "conn": 1, "time": 8, "flow": 1,
     "role": 1, "state": 4, "share": 4, "stream_flags": 4, "buffer_flags": 4, "level": 4, "session_state": 1,
-    "class": 1, "notice": 1}
+    "class": 1, "notice": 1, "outcome": 1}
 LIMITS = {  # of numbers, if they are narrower than their bytes, and of the lengths of the other types
     "length": (1, 4_194_304), "kind": (1, 7), "conn": (1, 32), "text": (0, 256), "format": (0, 0xFFFF),
     "guid": (16, 16)}
@@ -43,6 +43,7 @@ NAMES = {  # of values; of the types in JOINED a value may be several of these, 
                "session_created": 6, "disconnected": 7, "session_state": 8, "simple_volume": 9, "channel_volume": 10,
                "display_name": 11, "icon_path": 12, "grouping": 13, "duck": 14, "unduck": 15, "endpoint_volume": 16,
                "part_changed": 17},
+    "outcome": {"done": 0, "failed": 1},
     "share": {"shared": 0, "exclusive": 1},
     "stream_flags": {"crossprocess": 1 << 16, "loopback": 1 << 17, "eventcallback": 1 << 18,
                      "nopersist": 1 << 19},
@@ -65,7 +66,7 @@ EVENTS = [  # kind, code, event, fields, payload of S_OK
     (3, 4, "DeviceInfo", "endpoint:u32",
      "flow:flow state:state allow:u8 priority:u8 format:format id:text name:text"),
     (3, 5, "Activate", "endpoint:u32 role:role", "client:u64"),
-    (3, 6, "Release", "client:u64", ""),
+    (3, 6, "ReleaseClient", "client:u64", ""),  # Release of IUnknown
     (3, 7, "Register", "class:class subject:u64", "registration:u64"),
     (3, 8, "Unregister", "registration:u64", ""),
     (3, 9, "TakeNotices", "max:u32", "events:handle[] lost:u64 notices:told[]"),
@@ -112,7 +113,7 @@ EVENTS = [  # kind, code, event, fields, payload of S_OK
     (3, 75, "SetPartLevel", "endpoint:u32 part:u32 channel:u32 step:u32 context:guid?", ""),
     (3, 76, "GetPartMute", "endpoint:u32 part:u32", "mute:u8"),
     (3, 77, "SetPartMute", "endpoint:u32 part:u32 mute:u8 context:guid?", ""),
-    (4, None, "Period", "endpoint:u32", "frames:u32 outcome:u8"),
+    (4, None, "Period", "endpoint:u32", "frames:u32 outcome:outcome"),
     (5, None, "Device", "code:u8 rest:rest", ""),
     (5, 1, "Add", "endpoint:u32 flow:flow format:format name:text", ""),
     (5, 2, "SetState", "endpoint:u32 state:state", ""),
@@ -124,6 +125,10 @@ EVENTS = [  # kind, code, event, fields, payload of S_OK
     (5, 8, "SetName", "endpoint:u32 name:text", ""),
     (6, None, "Http", "request:message", "response:message"),
     (7, None, "Shutdown", "", "")]
+LATER = {  # of these events, those that the program doesn't answer yet but by E_NOTIMPL, or takes for malformed
+    "SetEventHandle", "SetDuckPreference", "GetDuckRule", "GetEndpointVolume", "SetEndpointMaster", "SetEndpointMute",
+    "SetEndpointChannel", "Parts", "PartInfo", "GetPartLevel", "SetPartLevel", "GetPartMute", "SetPartMute",
+    "SetExclusive", "SetDuckRule", "Http"}
 
 Field = namedtuple("Field", "name type optional")
 Shape = namedtuple("Shape", "name kind code fields")
@@ -146,8 +151,8 @@ _BY_CODE = {(shape.kind, shape.code): shape for shape in SHAPES.values()}
 def _limit(type_name, value):
     least, most = LIMITS.get(type_name) or (0, 256 ** SIZES[type_name] - 1)
     if not least <= value <= most:
-        what = type_name if type_name in SIZES else f"the length of a {type_name}"
-        raise ValueError(f"{what} is from {least} to {most}, and not {value}")
+        what = f"{type_name} " * (type_name in ("length", "kind")) if type_name in SIZES else "length "
+        raise ValueError(f"{what}{value} is not " + (f"from {least} to {most}" if least < most else str(most)))
     return value
 
 
