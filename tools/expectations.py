@@ -1,10 +1,10 @@
 """What a script expects of replies and of devices, and whether a run has it."""
 import re
 
-from pehvonk import near, value_of
+from pehvonk import value_of
 from shown import reply_words, word_of
 from sound import Sound
-from wire import PAYLOADS, RECORDS, RESULTS, fields_of
+from wire import PAYLOADS, RECORDS, RESULTS, fields_of, near
 
 ITEM = r'\s*((?:[^,"]|"(?:[^"\\]|\\.)*")*)(?:,|$)'
 

@@ -11,7 +11,6 @@ It is the one file to import: of the standard library alone, but for the tables 
 What can't be written as an event, and what can't be run, raises ValueError.
 """
 import array
-import difflib
 import json
 import os
 import re
@@ -26,36 +25,13 @@ from pathlib import Path
 from types import SimpleNamespace
 
 from wire import (FULL_LEVEL, JOINED, NAMES, NULL_GUID, PAYLOADS, RECORDS, RESULTS, SHAPES, SIZES, Event, bodies,
-                  decode_payload, fields_of, format_bytes, read_event, read_reply, spell)
+                  decode_payload, fields_of, format_bytes, matched, near, read_event, read_reply, shape_of, spell)
 
 PROGRAM = Path(__file__).resolve().parent.parent / "crates/audio_daemon/out/audio_daemon"
 UNITS = {"s": 10_000_000, "ms": 10_000, "us": 10, "": 1}
 GIVEN = {"Activate": "client", "Initialize": "session", "Register": "registration"}  # the number that a reply gives
-WORDS = {name.lower(): shape for name, shape in SHAPES.items()}
 RESULT_NAMES = {code: name for name, code in RESULTS.items()}
 Device = namedtuple("Device", "rate channels samples")
-
-
-def matched(pattern, word, what):
-    match = re.fullmatch(pattern, word)
-    if not match:
-        raise ValueError(f"'{word}' is no {what}")
-    return match
-
-
-def near(word, words):
-    """The end of a line on a wrong word: the nearest of the words, if one is near."""
-    by_low = {known.lower(): known for known in words}
-    close = difflib.get_close_matches(word.lower(), by_low, 1)
-    return f"; did you mean {by_low[close[0]]}?" if close else ""
-
-
-def shape_of(word):
-    if word.lower() == "release":
-        raise ValueError("'release' may be releasebuffer (frames of a lease) or releaseclient (the client goes)")
-    if word.lower() not in WORDS:
-        raise ValueError(f"no event is called '{word}'{near(word, WORDS)}")
-    return WORDS[word.lower()]
 
 
 def value_of(type_name, word):
@@ -165,6 +141,16 @@ class Last(str):
         return known[str(self)]
 
 
+def _field(name, type_name, value):
+    """The value of a field as the wire has it, or what stands for it in a list of events."""
+    if type(value) is str:
+        return value_of(type_name, value)
+    value = value.tobytes() if isinstance(value, array.array) else value
+    if not callable(value) and not isinstance(value, int if type_name in SIZES else bytes):
+        raise ValueError(f"{name}: {value!r} is no {type_name}")
+    return value
+
+
 class Events(list):
     """A list of events. `events.Period(endpoint=1)` adds one, and answers its place; `append` also takes bytes."""
     calls = 0
@@ -183,7 +169,7 @@ class Events(list):
             name = name.rstrip("_")  # class is a word of Python's
             if name not in types:
                 raise ValueError(f"{shape.name} takes no '{name}'{near(name, types)}")
-            given[name] = value_of(types[name], value) if type(value) is str else value
+            given[name] = _field(name, types[name], value)
         spell(shape.name, **{name: value if not callable(value) else 0 if types[name] in SIZES else b""
                              for name, value in given.items()})  # refuses what doesn't fit
         self.append(Event(shape.name, given))
@@ -205,6 +191,10 @@ class Events(list):
             run = _settled(self, program, inputs or {}, limit)
             _check_alone(run, fail[0])
         return run
+
+
+class CannotFail(ValueError):
+    """A device can't be made to fail as it was asked."""
 
 
 class Unresolved(ValueError):
@@ -262,7 +252,7 @@ def _settled(events, program, inputs, limit):
     """A run in which the events have the numbers that their replies give. Where they were guessed wrongly, all is run
     again with those that came: each time at least one more is right, since a reply depends on what is before it."""
     numbers, before = _guess(events), None
-    while True:
+    for _ in range(len(events) + 2):
         resolved, refused = _resolved(events, numbers)
         if before is not None and resolved == before.events:
             if refused:
@@ -270,6 +260,7 @@ def _settled(events, program, inputs, limit):
             return before
         before = Run(resolved, program, inputs, limit)
         numbers = before.numbers()
+    raise ValueError("the replies to the same events differ from run to run")
 
 
 class Run:
@@ -372,11 +363,11 @@ def _file_limit(run, endpoint, call, taken):
     flows = {event.values["endpoint"]: event.values["flow"] for _, event, _ in run.granted() if event.name == "Add"}
     writes = _writes(run, endpoint)
     if flows.get(endpoint) != NAMES["flow"]["render"]:
-        raise ValueError(f"fail: no endpoint {endpoint} plays, and only such a device can be made to fail")
+        raise CannotFail(f"no endpoint {endpoint} plays, and only such a device can be made to fail")
     if not 1 <= call <= len(writes):
-        raise ValueError(f"fail: the device of endpoint {endpoint} has {len(writes)} calls, and no call {call}")
+        raise CannotFail(f"the device of endpoint {endpoint} has {len(writes)} calls, and no call {call}")
     if not 0 <= taken < writes[call - 1]:
-        raise ValueError(f"fail: call {call} has {writes[call - 1]} bytes, and can't fail after {taken}")
+        raise CannotFail(f"call {call} has {writes[call - 1]} bytes, and can't fail after {taken}")
     return sum(writes[:call - 1]) + taken
 
 
@@ -384,4 +375,4 @@ def _check_alone(run, endpoint):
     """The limit holds for each file of the program's: no other device may have met it."""
     for _, event, reply in run.granted():
         if event.name == "Period" and reply.outcome == "failed" and event.values["endpoint"] != endpoint:
-            raise ValueError(f"fail: endpoint {event.values['endpoint']} failed too, as its file grows as long")
+            raise CannotFail(f"endpoint {event.values['endpoint']} failed too, as its file grows as long")

@@ -12,9 +12,9 @@ from collections import namedtuple
 from pathlib import Path
 
 from expectations import Frames, Result
-from pehvonk import Events, matched, near, shape_of, value_of
+from pehvonk import Events, value_of
 from sound import Sound
-from wire import put
+from wire import matched, near, put, shape_of
 
 QUOTED = r'"(?:[^"\\\x00-\x1f]|\\["\\/bfnrt]|\\u[0-9a-fA-F]{4})*"'
 PIECE = rf'(?:\[(?:[^\]"#]|{QUOTED})*\]|[^\s"#]|{QUOTED})'
@@ -36,7 +36,7 @@ class Script:
 
     def __init__(self, name, text, folder):
         self.name, self.folder = name, folder
-        self.events, self.inputs, self.fail = Events(), {}, None
+        self.events, self.inputs, self.fail, self.fail_line = Events(), {}, None, None
         self.checks, self.lines = [], []  # lines: of each event
         self.wrong, self.line, self.column, self.asked = [], 0, 1, None
         self.blocks = [(None, [])]  # of each repeat that is open: how often, and its steps
@@ -242,7 +242,7 @@ class Script:
             raise ValueError("endpoint is missing")
         if self.fail or len(self.blocks) > 1:
             raise ValueError("only one device can be made to fail, and not in a repeat")
-        self.fail = tuple(found.values())
+        self.fail, self.fail_line = tuple(found.values()), self.line
 
     def set_input(self, words):
         if len(words) != 2 or words[0].name not in (None, "endpoint") or words[1].name != "input":

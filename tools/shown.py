@@ -6,7 +6,8 @@ from itertools import islice
 from pathlib import Path
 
 from pehvonk import RESULT_NAMES, plain, sound_of
-from wire import (FULL_LEVEL, PAYLOADS, RECORDS, S_OK, SHAPES, bodies, decode_payload, fields_of, read_event, read_reply)
+from wire import (FULL_LEVEL, PAYLOADS, RECORDS, S_OK, SHAPES, bodies, decode_payload, fields_of, read_event,
+                  read_reply)
 
 KINDS = {shape.kind: name for name, shape in SHAPES.items() if shape.code is None}
 CODES = {name: code for code, name in RESULT_NAMES.items()}
@@ -45,7 +46,8 @@ def reply_line(body, event_name=None):
     head = "" if event_name else f"{KINDS[kind].lower()} conn={conn} tag={tag}: "
     name = event_name or KINDS[kind]
     result_name = RESULT_NAMES.get(result, f"0x{result:08X}")
-    return head + result_name + (reply_words(name, result_name, decode_payload(name, result, payload)) if payload else "")
+    values = decode_payload(name, result, payload)
+    return head + result_name + (reply_words(name, result_name, values) if payload else "")
 
 
 def json_of(fields, values):

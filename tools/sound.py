@@ -2,8 +2,8 @@
 import re
 from pathlib import Path
 
-from pehvonk import matched, read_frames, samples_of, scaled, sound_of
-from wire import LIMITS
+from pehvonk import read_frames, samples_of, scaled, sound_of
+from wire import LIMITS, matched
 
 
 class Sound:

@@ -189,9 +189,9 @@ class Failing(Scripts):
         self.assertEqual(lines[-1], "endpoint-1.pcm: 0 bytes, 0 frames of 1 channels: ")
 
     def test_what_cannot_fail(self):
-        wrong = [("fail endpoint=2", "fail: no endpoint 2 plays, and only such a device can be made to fail"),
-                 ("fail endpoint=1 call=3", "fail: the device of endpoint 1 has 2 calls, and no call 3"),
-                 ("fail endpoint=1 taken=160", "fail: call 1 has 160 bytes, and can't fail after 160")]
+        wrong = [("fail endpoint=2", "script:6: no endpoint 2 plays, and only such a device can be made to fail"),
+                 ("fail endpoint=1 call=3", "script:6: the device of endpoint 1 has 2 calls, and no call 3"),
+                 ("fail endpoint=1 taken=160", "script:6: call 1 has 160 bytes, and can't fail after 160")]
         for line, fault in wrong:
             with self.subTest(line):
                 self.fails(f"{PLAYER}{line}\nperiod 1 x2\n", fault, 2)
@@ -199,7 +199,7 @@ class Failing(Scripts):
         self.holds(f"{PLAYER}{other}fail endpoint=1 call=20\nperiod 1 x19\nperiod 2\nexpect S_OK outcome=done\n"
                    "period 1\n")
         self.fails(f"{PLAYER}{other}fail endpoint=1 call=2\nperiod 1 x2\nperiod 2\n",
-                   "fail: endpoint 2 failed too, as its file grows as long", 2)
+                   "script:7: endpoint 2 failed too, as its file grows as long", 2)
 
 
 if __name__ == "__main__":

@@ -6,7 +6,9 @@
 Numbers are ints; texts, formats, GUIDs and data are bytes; lists are lists, and records in them dicts.
 A new call is one line of EVENTS. Values without bytes, and bytes that are malformed, raise ValueError.
 """
+import difflib
 import io
+import re
 from collections import namedtuple
 
 NULL_GUID = bytes(16)
@@ -146,6 +148,31 @@ PAYLOADS = {(name, S_OK): fields_of(payload) for _, _, name, _, payload in EVENT
 PAYLOADS["IsFormatSupported", S_FALSE] = fields_of("format:format")
 PAYLOADS["Call", S_FALSE] = PAYLOADS["Call", S_OK]
 _BY_CODE = {(shape.kind, shape.code): shape for shape in SHAPES.values()}
+WORDS = {name.lower(): shape for name, shape in SHAPES.items()}
+
+
+def matched(pattern, word, what):
+    """The match of a whole word. ValueError says that it is no such thing."""
+    match = re.fullmatch(pattern, word)
+    if not match:
+        raise ValueError(f"'{word}' is no {what}")
+    return match
+
+
+def near(word, words):
+    """The end of a line on a wrong word: the nearest of the words, if one is near."""
+    by_low = {known.lower(): known for known in words}
+    close = difflib.get_close_matches(word.lower(), by_low, 1)
+    return f"; did you mean {by_low[close[0]]}?" if close else ""
+
+
+def shape_of(word):
+    """The shape of the event that a word names, in any case."""
+    if word.lower() == "release":
+        raise ValueError("'release' may be releasebuffer (frames of a lease) or releaseclient (the client goes)")
+    if word.lower() not in WORDS:
+        raise ValueError(f"no event is called '{word}'{near(word, WORDS)}")
+    return WORDS[word.lower()]
 
 
 def _limit(type_name, value):
