@@ -200,9 +200,24 @@ class CannotFail(ValueError):
 class Unresolved(ValueError):
     """A field stands for what no event before it was given. `place` is that of the event, `reason` says what."""
 
-    def __init__(self, place, reason):
+    def __init__(self, place, reason, asked):
         super().__init__(f"event {place}: {reason}")
-        self.place, self.reason = place, reason
+        self.place, self.reason, self.asked = place, str(reason), asked
+
+    def explained(self, run):
+        """The same, with what became of the call that should have given it."""
+        reply = run.replies[self.asked] if isinstance(self.asked, Place) else None
+        for event, answer in zip(run.events[:self.place], run.replies):
+            if isinstance(event, Event) and answer and answer.result != "S_OK" and self._is_giver(event):
+                reply = answer
+        return Unresolved(self.place, f"{self.reason}; {reply.event} was answered {reply.result}" if reply
+                          else self.reason, self.asked)
+
+    def _is_giver(self, event):
+        if isinstance(self.asked, Last):
+            letter = "$" + GIVEN.get(event.name, " ")[0]
+            return self.asked in (letter, f"{letter}{event.values.get('conn')}")
+        return not isinstance(self.asked, Place) and event.name == "Initialize"
 
 
 def _resolved(events, numbers):
@@ -217,7 +232,7 @@ def _resolved(events, numbers):
                     values[name] = value(known, values) if callable(value) else value
                 except ValueError as fault:
                     values[name] = b"" if name == "bytes" else 0
-                    refused.append(Unresolved(place, fault))
+                    refused.append(Unresolved(place, fault, value))
             event = Event(event.name, values)
             _note(known, place, event, numbers.get(place))
         found.append(event)
@@ -256,7 +271,7 @@ def _settled(events, program, inputs, limit):
         resolved, refused = _resolved(events, numbers)
         if before is not None and resolved == before.events:
             if refused:
-                raise refused[0]
+                raise refused[0].explained(before)
             return before
         before = Run(resolved, program, inputs, limit)
         numbers = before.numbers()

@@ -169,8 +169,12 @@ class Variables(Scripts):
                       " session=null", lines)
 
     def test_one_that_has_no_number(self):
-        self.fails("activate endpoint=9 role=console\nstart client=$c1\n",
-                   "script:2: $c1: no call before it was given such a number", 2)
+        self.fails("open 1 pid=10 name=player\nactivate endpoint=9 role=console\nstart client=$c1\n",
+                   "script:3: $c1: no call before it was given such a number; Activate was answered E_NOTFOUND", 2)
+        self.fails("add 1 render 8000x1 Speakers\nopen 1 pid=10 name=player\nactivate endpoint=1 role=console\n"
+                   "initialize client=$c1 shared 0 16000x1\nsetmaster session=$s1 level=50%\n",
+                   "script:5: $s1: no call before it was given such a number; Initialize was answered"
+                   " UNSUPPORTED_FORMAT", 2)
         self.fails("start client=$c2\nactivate conn=2 endpoint=1 role=console\n",
                    "script:1: $c2: no call before it was given such a number", 2)
 

@@ -95,7 +95,8 @@ class Runs(unittest.TestCase):
         events.Start(client=gone)
         with self.assertRaises(pehvonk.Unresolved) as caught:
             events.run(PROGRAM)
-        self.assertEqual((caught.exception.place, str(caught.exception)), (6, "event 6: event 5 was given no number"))
+        self.assertEqual((caught.exception.place, str(caught.exception)),
+                         (6, "event 6: event 5 was given no number; Activate was answered E_NOTFOUND"))
 
     def test_bytes_in_place_of_an_event(self):
         events, _ = player()
