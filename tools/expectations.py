@@ -109,12 +109,10 @@ class Frames:
             raise ValueError("what frames? ramp, zeros, level=N or @FILE")
         value_of("level", self.gain)
         self.sound = Sound(how, folder)
-        if how.startswith("@") and not (folder / how[1:]).is_file():
-            raise ValueError(f"{folder / how[1:]}: there is no such file")
 
     def failures(self, run, _places, before):
-        if self.endpoint not in run.sounds():
-            yield f"expected frames, and no endpoint {self.endpoint} was added"
+        if not run.plays(self.endpoint):
+            yield f"expected frames, and no endpoint {self.endpoint} plays"
             return
         rate, channels = run.sounds()[self.endpoint]
         came = run.samples_before(self.endpoint, before)

@@ -307,7 +307,7 @@ class Run:
             for endpoint, data in inputs.items():
                 Path(folder, f"endpoint-{endpoint}.pcm").write_bytes(data)
             how = {}
-            if limit is not None:  # a write beyond it takes what fits, and then fails, as the signal isn't restored
+            if limit is not None:  # a write beyond it takes what fits, and then fails: Python ignores its signal
                 how = {"restore_signals": False,
                        "preexec_fn": lambda: resource.setrlimit(resource.RLIMIT_FSIZE, (limit, limit))}
             done = subprocess.run([os.path.abspath(program), "replay", folder], input=self.sent, capture_output=True,
@@ -351,6 +351,11 @@ class Run:
         return {event.values["endpoint"]: sound_of(event.values["format"])
                 for _, event, _ in self.granted() if event.name in ("Add", "SetFormat")}
 
+    def plays(self, endpoint):
+        """Whether such an endpoint was added, and plays."""
+        return any(event.name == "Add" and event.values["endpoint"] == endpoint and event.values["flow"] == 0
+                   for _, event, _ in self.granted())
+
     def samples_before(self, endpoint, before):
         """The samples that an endpoint's device had got before the event at this place."""
         frames = [reply.frames if reply.outcome == "done" else None for place, event, reply in self.granted()
@@ -375,9 +380,8 @@ def _writes(run, endpoint):
 
 def _file_limit(run, endpoint, call, taken):
     """The length at which an endpoint's file has to end, for its device to fail at this call."""
-    flows = {event.values["endpoint"]: event.values["flow"] for _, event, _ in run.granted() if event.name == "Add"}
     writes = _writes(run, endpoint)
-    if flows.get(endpoint) != NAMES["flow"]["render"]:
+    if not run.plays(endpoint):
         raise CannotFail(f"no endpoint {endpoint} plays, and only such a device can be made to fail")
     if not 1 <= call <= len(writes):
         raise CannotFail(f"the device of endpoint {endpoint} has {len(writes)} calls, and no call {call}")
@@ -387,7 +391,9 @@ def _file_limit(run, endpoint, call, taken):
 
 
 def _check_alone(run, endpoint):
-    """The limit holds for each file of the program's: no other device may have met it."""
+    """The limit holds for each file of the program's: nothing else may have met it."""
+    if run.status:
+        raise CannotFail(f"with so short files the program ends with status {run.status}: is it the built one?")
     for _, event, reply in run.granted():
         if event.name == "Period" and reply.outcome == "failed" and event.values["endpoint"] != endpoint:
             raise CannotFail(f"endpoint {event.values['endpoint']} failed too, as its file grows as long")

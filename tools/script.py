@@ -13,7 +13,7 @@ from pathlib import Path
 
 from expectations import Frames, Result
 from pehvonk import Events, value_of
-from sound import Sound
+from sound import Sound, file_of
 from wire import matched, near, put, shape_of
 
 QUOTED = r'"(?:[^"\\\x00-\x1f]|\\["\\/bfnrt]|\\u[0-9a-fA-F]{4})*"'
@@ -250,7 +250,7 @@ class Script:
         endpoint, self.column = self.value("u32", words[0]), words[1].column
         if not words[1].text.startswith("@") or endpoint in self.inputs:
             raise ValueError("the input of a device is one @FILE")
-        self.inputs[endpoint] = str(self.folder / words[1].text[1:])
+        self.inputs[endpoint] = str(file_of(words[1].text, self.folder))
 
     def make(self, steps):
         if count(steps) > MOST_EVENTS:

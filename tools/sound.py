@@ -6,6 +6,14 @@ from pehvonk import read_frames, samples_of, scaled, sound_of
 from wire import LIMITS, matched
 
 
+def file_of(word, folder):
+    """The path of @FILE, from the script's folder on."""
+    path = Path(folder, word[1:])
+    if not path.is_file():
+        raise ValueError(f"{path}: there is no such file")
+    return path
+
+
 class Sound:
     """Frames that a script asks for. As the value of a field of ReleaseBuffer it is their bytes.
 
@@ -17,7 +25,9 @@ class Sound:
         self.how, self.folder, self.frames, self.channels, self.start = how, folder, frames, channels, start
         if how.startswith("level="):
             matched("level=(-?[0-9]+)", how, "sample")
-        elif start is not None and not how.startswith("@"):
+        elif how.startswith("@"):
+            file_of(how, folder)
+        elif start is not None:
             raise ValueError("from= is for a file")
         if max(frames, 1) * (channels or 2) * 2 > LIMITS["length"][1]:
             raise ValueError(f"{frames} frames of {channels or 2} channels are too many")
@@ -46,11 +56,8 @@ class Sound:
     def of(self, frames, rate, channels):
         """The bytes of so many frames; of all that a file has, if they are None."""
         if self.how.startswith("@"):
-            path, size = Path(self.folder, self.how[1:]), 2 * channels
-            try:
-                data = read_frames(path, rate, channels)[(self.start or 0) * size:]
-            except OSError as fault:
-                raise ValueError(f"{fault.filename}: {fault.strerror}")
+            size = 2 * channels
+            data = read_frames(file_of(self.how, self.folder), rate, channels)[(self.start or 0) * size:]
             return data if frames is None else data[:frames * size].ljust(frames * size, b"\0")
         level = int(self.how[6:]) if self.how.startswith("level=") else 0
         slopes = [(self.how == "ramp") * (-1) ** channel for channel in range(channels)]

@@ -123,7 +123,7 @@ class Devices(Scripts):
         self.fails(PLAYER + PLAYED + "expect frames endpoint=1 from=80 zeros\n",
                    "script:9: expected frames from 80 on, and endpoint 1 has 80")
         self.fails(PLAYER + "expect frames endpoint=3 zeros\n",
-                   "script:6: expected frames, and no endpoint 3 was added")
+                   "script:6: expected frames, and no endpoint 3 plays")
 
     def test_what_the_device_had_by_then(self):
         self.holds(PLAYER + PLAYED + "expect frames endpoint=1 from=1 frames=1 level=-1000\n"
@@ -144,6 +144,12 @@ class Devices(Scripts):
                    "script:7: in.wav: 16000x1 of 16 bits, and not 8000x1 of 16", 2)
         self.fails("releasebuffer client=1 frames=80 bytes=@in.wav\n",
                    "script:1: the client has no stream whose format the file could have", 2)
+
+    def test_files_that_are_not_there(self):
+        for line, column in [("device 2 input=@no.wav", 10), ("releasebuffer 1 80 @no.wav", 20),
+                             ("expect frames endpoint=1 @no.wav", 26)]:
+            with self.subTest(line):
+                self.fails(f"period 1\n{line}\n", f"script:2:{column}: no.wav: there is no such file", 2)
 
     def test_kept_files(self):
         kept = self.folder / "kept"
