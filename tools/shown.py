@@ -97,34 +97,52 @@ def list_lines(data, one):
         raise ValueError(f"malformed at {place}: {fault}")
 
 
+def labelled(name, data):
+    """The bodies of a file's frames. What is malformed is told with the file's name."""
+    try:
+        yield from bodies(data)
+    except ValueError as fault:
+        raise ValueError(f"{name}: {fault}")
+
+
+def asked(body, as_json):
+    """The name of an event, None if it is malformed, and the event as a line or an object."""
+    try:
+        return read_event(body).name, event_object(body) if as_json else event_line(body)
+    except ValueError as fault:
+        return None, {"event": None, "bytes": body.hex()} if as_json else f"{body.hex()} ({fault})"
+
+
+def answered(reply, name, as_json):
+    try:
+        if reply is None:
+            return None if as_json else "no reply"
+        return reply_object(reply, name) if as_json else reply_line(reply, name)
+    except ValueError as fault:
+        raise ValueError(f"replies: {fault}")
+
+
 def exchange(sent, replies, as_json=False):
     """The lines of each event and its reply. A reply that is malformed, missing or too many raises ValueError."""
-    replies, missing = bodies(replies), 0
-    for body in bodies(sent):
-        try:
-            name = read_event(body).name
-            event = event_object(body) if as_json else event_line(body)
-        except ValueError as fault:
-            name, event = None, f"{body.hex()} ({fault})"
-            event = {"event": None, "bytes": body.hex()} if as_json else event
+    replies, missing = labelled("replies", replies), 0
+    for body in labelled("events", sent):
+        name, event = asked(body, as_json)
         reply = next(replies, None)
         missing += reply is None
-        if as_json:
-            yield json.dumps({"event": event, "reply": reply and reply_object(reply, name)})
-        else:
-            yield event
-            yield f"    {reply_line(reply, name) if reply else 'no reply'}"
+        answer = answered(reply, name, as_json)
+        yield json.dumps({"event": event, "reply": answer}) if as_json else f"{event}\n    {answer}"
     if missing or next(replies, None):
-        raise ValueError(f"events without a reply: {missing}" if missing else "there are more replies than events")
+        raise ValueError("replies: " + (f"none to {missing} events" if missing else "more than events"))
 
 
 def channels_of(sent, replies):
     """The channels of each endpoint that was added."""
     found = {}
-    for body, reply in zip(bodies(sent), bodies(replies)):
-        name, values = read_event(body)
-        if name in ("Add", "SetFormat") and read_reply(reply).result == S_OK:
-            found[values["endpoint"]] = sound_of(values["format"])[1]
+    with suppress(ValueError):  # what is malformed is told where it is shown
+        for body, reply in zip(bodies(sent), bodies(replies)):
+            name, values = read_event(body)
+            if name in ("Add", "SetFormat") and read_reply(reply).result == S_OK:
+                found[values["endpoint"]] = sound_of(values["format"])[1]
     return found
 
 

@@ -190,12 +190,12 @@ period endpoint=1
     no reply
 endpoint-1.pcm: 5 bytes, 2 frames of 1 channels: 1 | -1
 """
-        said = "replies: events without a reply: 2\nmalformed at 37\nexit status 3\n"
+        said = "replies: none to 2 events\nmalformed at 37\nexit status 3\n"
         self.assertEqual(self.ends(run_program(program, script), 3, said), lines)
 
     def test_replies_that_are_malformed_or_too_few(self):
         reply = "printf '\\012\\0\\0\\0\\007\\0\\0\\0\\0\\0\\0\\0\\0\\0'\n"
-        wrong = [("", "events without a reply: 1"), (reply * 2, "there are more replies than events"),
+        wrong = [("", "none to 1 events"), (reply * 2, "more than events"),
                  ("printf '\\005'", "4 bytes are wanted and 1 are left"),
                  (reply.replace("007", "010"), "kind 8 is not from 1 to 7")]
         self.ends(run_program("#!/bin/sh\ncat > /dev/null\n" + reply, "shutdown\n"), 0, "")
@@ -206,7 +206,7 @@ endpoint-1.pcm: 5 bytes, 2 frames of 1 channels: 1 | -1
 
     def test_a_program_that_is_killed(self):
         done = run_program("#!/bin/sh\nkill -9 $$\n", "shutdown\n")
-        self.ends(done, 3, "replies: events without a reply: 1\nexit status -9\n")
+        self.ends(done, 3, "replies: none to 1 events\nexit status -9\n")
 
     def test_a_broken_pipe(self):
         reader, writer = os.pipe()

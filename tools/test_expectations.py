@@ -2,6 +2,7 @@
 
 The program is PEHVONK_PROGRAM, or the one that the repository's gate or ./first-run --proved leaves.
 """
+import json
 import tempfile
 import unittest
 import wave
@@ -82,6 +83,13 @@ class Replies(Scripts):
         self.fails(PLAYER + "stop client=$c1 x2\nexpect S_OK\n",
                    "script:7: expected S_OK, and came S_FALSE (to event 7)")
 
+    def test_an_expectation_outweighs_the_programs_status(self):
+        status, _, said = self.run_script("period 1\nraw 00000000\nexpect S_OK\n")
+        self.assertEqual((status, said.splitlines()[-3:]), (1, [
+            "malformed at 9", "exit status 3", "script:3: expected S_OK, and came no reply (to event 2)"]))
+        self.fails("period 1\nraw 00000000\n", "events: length 0 is not from 1 to 4194304\n"
+                   "malformed at 9\nexit status 3", 3)
+
     def test_at_most_ten_are_told(self):
         status, _, said = self.run_script("period 1 x12\nexpect S_OK\n")
         self.assertEqual((status, len(said.splitlines()), said.splitlines()[-1]), (1, 11, "and 2 more"))
@@ -161,6 +169,13 @@ class Devices(Scripts):
         self.assertEqual(read_frames(kept / "endpoint-1.wav", 8000, 1), data)
         shown = run_main(events, ("show", str(kept / "events"), str(kept / "replies"), str(kept)))
         self.assertEqual(shown[1].splitlines(), self.holds(PLAYER + PLAYED))
+
+    def test_json_of_a_run(self):
+        lines = [json.loads(line) for line in self.holds(PLAYER + PLAYED, "--json")]
+        self.assertEqual(lines[-2], {"event": {"event": "Period", "endpoint": 1},
+                                     "reply": {"reply": "Period", "conn": 0, "tag": 0, "result": "S_OK", "frames": 80,
+                                               "outcome": "done"}})
+        self.assertEqual(lines[-1], {"device": 1, "bytes": 160, "frames": 80, "channels": 1})
 
 
 class Variables(Scripts):
