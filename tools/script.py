@@ -135,29 +135,31 @@ class Script:
         self.keep("event", (shape.name, values), times)
 
     def named(self, shape, fields, words):
-        """The words that name their fields, by these; and the others. Some say how a field is made."""
+        """The words that name their fields, by these; and the others."""
         given, bare = {}, []
-        for word in words:
-            self.column, name = word.column, word.name
-            if name in ("rate", "level") and name not in fields:
-                name = {"rate": "format", "level": "bytes"}[name]
-                text = f"{word.text}x{self.taken(words, 'channels', '2')}" if name == "format" else f"level={word.text}"
-                word = Word(name, text, word.column)
-            if name is None:
+        for word in self.made(fields, words):
+            self.column = word.column
+            if word.name is None:
                 bare.append(word)
                 continue
-            made = name in ("channels", "from") and set(fields) & {"bytes", "format"}
-            if name not in fields and not made:
-                raise ValueError(f"{shape.name} takes no '{name}'{near(name, fields)}")
-            if name in given:
-                raise ValueError(f"{name} is given twice")
-            given[name] = word
-        if "format" in given and "format" in fields and given["format"].text[:1].isdigit():
-            given.pop("channels", None)
+            if word.name not in fields and not ("bytes" in fields and word.name in ("channels", "from")):
+                raise ValueError(f"{shape.name} takes no '{word.name}'{near(word.name, fields)}")
+            if word.name in given:
+                raise ValueError(f"{word.name} is given twice")
+            given[word.name] = word
         return given, bare
 
-    def taken(self, words, name, other):
-        return next((word.text for word in words if word.name == name), other)
+    def made(self, fields, words):
+        """The words, with format=RATExCHANNELS in place of rate= and channels=, and bytes=level=N in place of level=."""
+        by_name = {word.name: word for word in words}
+        rate, channels, level = by_name.get("rate"), by_name.get("channels"), by_name.get("level")
+        if rate and "format" in fields:
+            made = Word("format", f"{rate.text}x{channels.text if channels else 2}", rate.column)
+            return [made if word is rate else word for word in words if word is not channels]
+        if level and "bytes" in fields:
+            return [word._replace(name="bytes", text=f"level={word.text}") if word.name == "level" else word
+                    for word in words]
+        return words
 
     def by_order(self, shape, fields, needed, bare, column):
         """The words without a name, by the fields that are left. If there are too few, the first field is told that

@@ -30,8 +30,8 @@ COMMENT = {".rt": r"//.*", ".antt": r"--.*"}
 
 BUILT = "crates/audio_daemon/out/audio_daemon"  # the program, which the gate makes
 # each stands for a word of the reader's
-PLACEHOLDERS = {"FOLDER", "FILE", "SCRIPT", "NAME", "CODE", "GUID", "PROCESS", "N", "P", "EVENT", "FIELD", "VALUE", "SOUND",
-                "HEX", "CLIENT", "xN"}
+PLACEHOLDERS = {"FOLDER", "FILE", "SCRIPT", "NAME", "CODE", "GUID", "PROCESS", "N", "P", "EVENT", "FIELD", "VALUE",
+                "SOUND", "HEX", "CLIENT", "xN"}
 OUTSIDE = {"unsafe", "memcpy", "memset", "valgrind", "callgrind"}  # words of the language and the system
 
 

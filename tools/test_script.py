@@ -176,6 +176,9 @@ class WrongLines(unittest.TestCase):
         ("call code=200", 1, "rest is missing"),
         ("http hex:4", 6, "request: 'hex:4' is no list of bytes in hex"),
         ("http GET /", 10, "Http takes no '/'"),
+        ("period 1 level=5", 10, "Period takes no 'level'"),
+        ("releaseclient 1 rate=5", 17, "ReleaseClient takes no 'rate'"),
+        ("add 1 render format=48000x2 channels=2 name=x", 29, "Add takes no 'channels'"),
         ("shutdown now", 10, "Shutdown takes no 'now'"),
         # the nearest word, and the field that is missing in place of the word that follows
         ("GetBufer client=1 frames=3", 1, "no event is called 'GetBufer'; did you mean getbuffer?"),
