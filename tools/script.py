@@ -150,7 +150,7 @@ class Script:
         return given, bare
 
     def made(self, fields, words):
-        """The words, with format=RATExCHANNELS in place of rate= and channels=, and bytes=level=N in place of level=."""
+        """The words, with format=RATExCHANNELS in place of rate= and channels=, and bytes=level=N for level=N."""
         by_name = {word.name: word for word in words}
         rate, channels, level = by_name.get("rate"), by_name.get("channels"), by_name.get("level")
         if rate and "format" in fields:
