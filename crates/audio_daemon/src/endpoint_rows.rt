@@ -3,7 +3,7 @@
 use crate::exchanges::{Ask, Row, holds};
 use crate::rows::{ACTIVATE_1, E_HANDLE, ONE, S_OK, TWO};
 use crate::run::Status;
-use crate::session_rows::{E_NOTFOUND, OWN_2};
+use crate::session_rows::E_NOTFOUND;
 use crate::tests::{ACTIVATE, ADD, INITIALIZE, OPEN, replay};
 use std::test::Fail;
 
@@ -57,7 +57,7 @@ const ROWS: &[Row] = &[
             (Ask::Call(17, ONE), DEVICE_INVALIDATED, b""),
             (Ask::Call(6, ONE), S_OK, b""),
             (Ask::Call(5, ACTIVATE_1), S_OK, TWO),
-            (Ask::Call(16, OWN_2), S_OK, TWO),
+            (Ask::Initialize(1, 2, 0, 0), S_OK, TWO),
         ],
     ),
     (

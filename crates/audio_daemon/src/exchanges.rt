@@ -7,6 +7,9 @@ use crate::tests::{OPEN, joined, replay};
 use std::alloc::Global;
 use std::test::Fail;
 
+/// WAVEFORMATEX of 48,000 Hz with two channels, after its two bytes of length: the format of endpoint 1.
+pub const MIX_FORMAT: &[u8] = b"\x12\0\x01\0\x02\0\x80\xbb\0\0\0\xee\x02\0\x04\0\x10\0\0\0";
+
 /// What is asked of endpoint 1, and of connection 1 if no other is named.
 #[derive(Clone, Copy)]
 pub enum Ask {
@@ -14,15 +17,24 @@ pub enum Ask {
     Call(u8, &'static [u8]),
     /// The same on another connection.
     On(u8, u8, &'static [u8]),
+    /// Initialize on this connection, of this client, with these flags: shared, duration 0, `MIX_FORMAT`, and a GUID each
+    /// of whose bytes is this one.
+    Initialize(u8, u8, u32, u8),
+    /// ReleaseBuffer of this client: so many frames with these flags, each of them this one.
+    Frames(u8, u16, u32, [u8; 4]),
     /// A device event's code, and the bytes of its fields.
     Device(u8, &'static [u8]),
     Period,
     /// A period of the endpoint of this number.
     PeriodOf(u8),
     Hangup,
+    /// The connection of this number hangs up.
+    HangupOf(u8),
     Shutdown,
     /// The connection opens, as in `OPEN`.
     Open,
+    /// The connection of this number opens, of the process of this number and with this name.
+    OpenAs(u8, u8, &'static [u8]),
 }
 
 /// What is asked, and the code and payload of its reply.
@@ -39,11 +51,117 @@ fn size_of(bytes: &[u8]) -> u32
 }
 
 /// Puts the frame of a call behind the input. Answers the head of its reply.
-fn put_call(conn: u8, code: u8, fields: &[u8], input: &mut Vec<u8>) -> Result<[u8; 6], Fail> {
+pub fn put_call(conn: u8, code: u8, fields: &[u8], input: &mut Vec<u8>) -> Result<[u8; 6], Fail> {
     input.extend_from_slice(&(size_of(fields) + 7).to_le_bytes())?;
     input.extend_from_slice(&[3, conn, 9, 0, 0, 0, code])?;
     input.extend_from_slice(fields)?;
     Ok([3, conn, 9, 0, 0, 0])
+}
+
+/// The same of Initialize, as `Ask::Initialize` has it.
+pub fn put_opening(
+    conn: u8,
+    client: u8,
+    flags: u32,
+    guid: u8,
+    input: &mut Vec<u8>,
+) -> Result<[u8; 6], Fail> {
+    input.extend_from_slice(&[0x4b, 0, 0, 0, 3, conn, 9, 0, 0, 0, 16])?;
+    input.extend_from_slice(&[client, 0, 0, 0, 0, 0, 0, 0, 0, 0, 0, 0])?;
+    input.extend_from_slice(&flags.to_le_bytes())?;
+    input.extend_from_slice(&[0; 16])?;
+    input.extend_from_slice(MIX_FORMAT)?;
+    input.extend_from_slice(&[guid; 16])?;
+    Ok([3, conn, 9, 0, 0, 0])
+}
+
+/// The same of ReleaseBuffer, as `Ask::Frames` has it.
+fn put_frames(
+    client: u8,
+    count: u16,
+    flags: u32,
+    frame: [u8; 4],
+    input: &mut Vec<u8>,
+) -> Result<[u8; 6], Fail> {
+    let size = 23 + count as u32 * 4;
+    input.extend_from_slice(&size.to_le_bytes())?;
+    input.extend_from_slice(&[3, 1, 9, 0, 0, 0, 33, client, 0, 0, 0, 0, 0, 0, 0])?;
+    input.extend_from_slice(&(count as u32).to_le_bytes())?;
+    input.extend_from_slice(&flags.to_le_bytes())?;
+    for _ in 0..count {
+        input.extend_from_slice(&frame)?;
+    }
+    Ok([3, 1, 9, 0, 0, 0])
+}
+
+/// The same of Open.
+fn put_open(conn: u8, process: u8, name: &[u8], input: &mut Vec<u8>) -> Result<[u8; 6], Fail> {
+    let length = name.len().min(256) as u16;
+    input.extend_from_slice(&(length as u32 + 8).to_le_bytes())?;
+    input.extend_from_slice(&[1, conn, process, 0, 0, 0])?;
+    input.extend_from_slice(&length.to_le_bytes())?;
+    input.extend_from_slice(name)?;
+    Ok([1, conn, 0, 0, 0, 0])
+}
+
+/// The same of a device event.
+fn put_device(code: u8, fields: &[u8], input: &mut Vec<u8>) -> Result<[u8; 6], Fail> {
+    input.extend_from_slice(&(size_of(fields) + 2).to_le_bytes())?;
+    input.extend_from_slice(&[5, code])?;
+    input.extend_from_slice(fields)?;
+    Ok([5, 0, 0, 0, 0, 0])
+}
+
+/// The same of a period.
+fn put_period(endpoint: u8, input: &mut Vec<u8>) -> Result<[u8; 6], Fail> {
+    input.extend_from_slice(&[5, 0, 0, 0, 4, endpoint, 0, 0, 0])?;
+    Ok([4, 0, 0, 0, 0, 0])
+}
+
+/// The same of a hang-up.
+fn put_hangup(conn: u8, input: &mut Vec<u8>) -> Result<[u8; 6], Fail> {
+    input.extend_from_slice(&[2, 0, 0, 0, 2, conn])?;
+    Ok([2, conn, 0, 0, 0, 0])
+}
+
+/// The same of what is asked.
+fn put_event(ask: Ask, input: &mut Vec<u8>) -> Result<[u8; 6], Fail> {
+    match ask {
+        Ask::Call(call, fields) => put_call(1, call, fields, input),
+        Ask::On(conn, call, fields) => put_call(conn, call, fields, input),
+        Ask::Initialize(conn, client, flags, guid) => {
+            put_opening(conn, client, flags, guid, input)
+        }
+        Ask::Frames(client, count, flags, frame) => put_frames(client, count, flags, frame, input),
+        Ask::Device(event, fields) => put_device(event, fields, input),
+        Ask::Period => put_period(1, input),
+        Ask::PeriodOf(endpoint) => put_period(endpoint, input),
+        Ask::Hangup => put_hangup(1, input),
+        Ask::HangupOf(conn) => put_hangup(conn, input),
+        Ask::Shutdown => {
+            input.extend_from_slice(b"\x01\0\0\0\x07")?;
+            Ok([7, 0, 0, 0, 0, 0])
+        }
+        Ask::Open => {
+            input.extend_from_slice(OPEN)?;
+            Ok([1, 1, 0, 0, 0, 0])
+        }
+        Ask::OpenAs(conn, process, name) => put_open(conn, process, name, input),
+    }
+}
+
+/// Puts the frame of a reply behind the output.
+pub fn put_reply(
+    head: [u8; 6],
+    code: u32,
+    payload: &[u8],
+    output: &mut Vec<u8>,
+) -> Result<(), Fail> {
+    output.extend_from_slice(&(size_of(payload) + 10).to_le_bytes())?;
+    output.extend_from_slice(&head)?;
+    output.extend_from_slice(&code.to_le_bytes())?;
+    output.extend_from_slice(payload)?;
+    Ok(())
 }
 
 /// Puts the frame of what is asked behind the input, and the frame of its reply behind the output.
@@ -54,41 +172,8 @@ pub fn put_asked(
     input: &mut Vec<u8>,
     output: &mut Vec<u8>,
 ) -> Result<(), Fail> {
-    let head = match ask {
-        Ask::Call(call, fields) => put_call(1, call, fields, input)?,
-        Ask::On(conn, call, fields) => put_call(conn, call, fields, input)?,
-        Ask::Device(event, fields) => {
-            input.extend_from_slice(&(size_of(fields) + 2).to_le_bytes())?;
-            input.extend_from_slice(&[5, event])?;
-            input.extend_from_slice(fields)?;
-            [5, 0, 0, 0, 0, 0]
-        }
-        Ask::Shutdown => {
-            input.extend_from_slice(b"\x01\0\0\0\x07")?;
-            [7, 0, 0, 0, 0, 0]
-        }
-        Ask::Period => {
-            input.extend_from_slice(b"\x05\0\0\0\x04\x01\0\0\0")?;
-            [4, 0, 0, 0, 0, 0]
-        }
-        Ask::PeriodOf(n) => {
-            input.extend_from_slice(&[5, 0, 0, 0, 4, n, 0, 0, 0])?;
-            [4, 0, 0, 0, 0, 0]
-        }
-        Ask::Hangup => {
-            input.extend_from_slice(b"\x02\0\0\0\x02\x01")?;
-            [2, 1, 0, 0, 0, 0]
-        }
-        Ask::Open => {
-            input.extend_from_slice(OPEN)?;
-            [1, 1, 0, 0, 0, 0]
-        }
-    };
-    output.extend_from_slice(&(size_of(payload) + 10).to_le_bytes())?;
-    output.extend_from_slice(&head)?;
-    output.extend_from_slice(&code.to_le_bytes())?;
-    output.extend_from_slice(payload)?;
-    Ok(())
+    let head = put_event(ask, input)?;
+    put_reply(head, code, payload, output)
 }
 
 /// The same of a row's exchange.
@@ -97,8 +182,9 @@ pub fn put(exchange: &Exchange, input: &mut Vec<u8>, output: &mut Vec<u8>) -> Re
     put_asked(ask, result, payload, input, output)
 }
 
-/// Whether the row's replies are those that the program writes for it, and it ends with Done.
-pub fn holds(alloc: Global, row: &Row) -> Result<bool, Fail> {
+/// What the device of endpoint 1 gets, if the row's replies are those that the program writes for it, and it ends with
+/// Done.
+pub fn device_of(alloc: Global, row: &Row) -> Result<Option<Vec<u8>>, Fail> {
     let (first, exchanges) = *row;
     let mut input = joined(alloc, first)?;
     let mut output = Vec::new(alloc);
@@ -106,5 +192,14 @@ pub fn holds(alloc: Global, row: &Row) -> Result<bool, Fail> {
         put(exchange, &mut input, &mut output)?;
     }
     let got = replay(alloc, &input, &[], &[], &[])?;
-    Ok(got.status == Status::Done && got.output.ends_with(&output))
+    if got.status == Status::Done && got.output.ends_with(&output) {
+        return Ok(Some(got.device));
+    }
+    Ok(None)
+}
+
+/// Whether the row's replies are those that the program writes for it, and it ends with Done.
+pub fn holds(alloc: Global, row: &Row) -> Result<bool, Fail> {
+    let device = device_of(alloc, row)?;
+    Ok(device.is_some())
 }

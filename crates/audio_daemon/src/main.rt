@@ -8,11 +8,17 @@ ghost use Rattle.audio_daemon.specs.Run.{exit_status, is_replay};
 ghost use Rattle.audio_daemon.specs.StatusLine.{Finishes};
 
 #[cfg(test)]
+mod bad_formats;
+#[cfg(test)]
+mod bad_rows;
+#[cfg(test)]
 mod capture_rows;
 #[cfg(test)]
 mod endpoint_rows;
 #[cfg(test)]
 mod exchanges;
+#[cfg(test)]
+mod heard_rows;
 #[cfg(test)]
 mod notice_rows;
 #[cfg(test)]

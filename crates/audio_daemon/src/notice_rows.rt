@@ -6,7 +6,7 @@ use crate::endpoint_rows::{ADD_2, DEVICE_INVALIDATED, DISABLED_2, ENDPOINT_2, ST
 use crate::exchanges::{Ask, Exchange, Row, put};
 use crate::rows::{GET_7, GET_480, ONE, S_OK, SILENT_7, SILENT_480, TWO};
 use crate::run::Status;
-use crate::session_rows::{ACTIVATE_2, E_INVALIDARG, E_NOTFOUND, FULL, OPEN_2, OWN_2};
+use crate::session_rows::{ACTIVATE_2, E_INVALIDARG, E_NOTFOUND, FULL, OPEN_2};
 use crate::tests::{ACTIVATE, ADD, INITIALIZE, OPEN, joined, replay};
 use std::alloc::Global;
 use std::test::Fail;
@@ -16,7 +16,7 @@ const DEVICES: &[u8] = b"\x01\0\0\0\0\0\0\0\0";
 
 const SESSION_1: &[u8] = b"\x03\x01\0\0\0\0\0\0\0";
 
-const ALL_SESSIONS: &[u8] = b"\x03\0\0\0\0\0\0\0\0";
+pub const ALL_SESSIONS: &[u8] = b"\x03\0\0\0\0\0\0\0\0";
 
 const CLASS_7: &[u8] = b"\x07\0\0\0\0\0\0\0\0";
 
@@ -41,7 +41,8 @@ const STATE_3: &[u8] = b"\x01\0\0\0\x03\0\0\0";
 /// each notice.
 type Told = (Row, &'static [[u8; 3]]);
 
-/// A format that matches, and one that doesn't; levels of a session.
+/// A format that matches, and one that doesn't; levels of a session; a session that becomes active, inactive and
+/// expired.
 const TOLD: &[Told] = &[
     (
         (
@@ -79,6 +80,18 @@ const TOLD: &[Told] = &[
             ],
         ),
         &[[9, 1, 10]],
+    ),
+    (
+        (
+            STARTED,
+            &[
+                (Ask::Call(7, SESSION_1), S_OK, ONE),
+                (Ask::Call(23, ONE), S_OK, b""),
+                (Ask::Call(24, ONE), S_OK, b""),
+                (Ask::Call(6, ONE), S_OK, b""),
+            ],
+        ),
+        &[[8, 1, 1], [8, 1, 0], [8, 1, 2]],
     ),
 ];
 
@@ -158,7 +171,7 @@ const FAILED: Told = (
     (
         &[ADD, ADD_2, OPEN, OPEN_2, ACTIVATE, ACTIVATE_2, INITIALIZE],
         &[
-            (Ask::On(2, 16, OWN_2), S_OK, TWO),
+            (Ask::Initialize(2, 2, 0, 0), S_OK, TWO),
             (Ask::Call(32, GET_480), S_OK, b""),
             (Ask::Call(33, SILENT_480), S_OK, b""),
             (Ask::On(2, 32, GET_480_OF_2), S_OK, b""),

@@ -1,6 +1,6 @@
 //! Rows of calls of one client, each worked out by hand.
 
-use crate::exchanges::{Ask, Row, holds, put};
+use crate::exchanges::{Ask, MIX_FORMAT, Row, holds, put};
 use crate::run::Status;
 use crate::tests::{ACTIVATE, ADD, INITIALIZE, OPEN, joined, replay};
 use std::test::Fail;
@@ -9,7 +9,7 @@ pub const S_OK: u32 = 0;
 
 pub const S_FALSE: u32 = 1;
 
-const E_NOTIMPL: u32 = 0x8000_4001;
+pub const E_NOTIMPL: u32 = 0x8000_4001;
 
 pub const E_NOINTERFACE: u32 = 0x8000_4002;
 
@@ -17,17 +17,17 @@ pub const E_HANDLE: u32 = 0x8007_0006;
 
 pub const NOT_INITIALIZED: u32 = 0x8889_0001;
 
-const ALREADY_INITIALIZED: u32 = 0x8889_0002;
+pub const ALREADY_INITIALIZED: u32 = 0x8889_0002;
 
 pub const WRONG_ENDPOINT_TYPE: u32 = 0x8889_0003;
 
-const NOT_STOPPED: u32 = 0x8889_0005;
+pub const NOT_STOPPED: u32 = 0x8889_0005;
 
-const BUFFER_TOO_LARGE: u32 = 0x8889_0006;
+pub const BUFFER_TOO_LARGE: u32 = 0x8889_0006;
 
 pub const OUT_OF_ORDER: u32 = 0x8889_0007;
 
-const UNSUPPORTED_FORMAT: u32 = 0x8889_0008;
+pub const UNSUPPORTED_FORMAT: u32 = 0x8889_0008;
 
 pub const INVALID_SIZE: u32 = 0x8889_0009;
 
@@ -72,16 +72,13 @@ pub const SILENT_480: &[u8] = b"\x01\0\0\0\0\0\0\0\xe0\x01\0\0\x02\0\0\0";
 const SILENT_48000: &[u8] = b"\x01\0\0\0\0\0\0\0\x80\xbb\0\0\x02\0\0\0";
 
 /// The padding of 0 and of 47,520 frames, and the reply to a whole period of 480 frames.
-const NO_PADDING: &[u8] = b"\0\0\0\0";
+pub const NO_PADDING: &[u8] = b"\0\0\0\0";
 
 const MUCH_PADDING: &[u8] = b"\xa0\xb9\0\0";
 
 pub const PLAYED_480: &[u8] = b"\xe0\x01\0\0\0";
 
-/// WAVEFORMATEX of 48,000 Hz and of 44,100 Hz with two channels, each after its two bytes of length.
-const MIX_FORMAT: &[u8] = b"\x12\0\x01\0\x02\0\x80\xbb\0\0\0\xee\x02\0\x04\0\x10\0\0\0";
-
-/// IsFormatSupported (client, shared, format) of the two.
+/// IsFormatSupported (client, shared, format): of 48,000 Hz and of 44,100 Hz with two channels.
 const SUPPORTS_48000: &[u8] =
     b"\x01\0\0\0\0\0\0\0\0\0\0\0\x12\0\x01\0\x02\0\x80\xbb\0\0\0\xee\x02\0\x04\0\x10\0\0\0";
 
@@ -89,15 +86,16 @@ const SUPPORTS_44100: &[u8] =
     b"\x01\0\0\0\0\0\0\0\0\0\0\0\x12\0\x01\0\x02\0\x44\xac\0\0\x10\xb1\x02\0\x04\0\x10\0\0\0";
 
 /// Initialize (client, shared, flags 0, duration, period 0, format, null GUID): of client 1 with a duration of one
-/// second and with none, of client 2 with 44,100 Hz.
+/// second, of client 2 with 44,100 Hz.
 const INITIALIZE_1S: &[u8] =
     b"\x01\0\0\0\0\0\0\0\0\0\0\0\0\0\0\0\x80\x96\x98\0\0\0\0\0\0\0\0\0\0\0\0\0\x12\0\x01\0\x02\0\x80\xbb\0\0\0\xee\x02\0\x04\0\x10\0\0\0\0\0\0\0\0\0\0\0\0\0\0\0\0\0\0\0";
 
-const INITIALIZE_1: &[u8] =
-    b"\x01\0\0\0\0\0\0\0\0\0\0\0\0\0\0\0\0\0\0\0\0\0\0\0\0\0\0\0\0\0\0\0\x12\0\x01\0\x02\0\x80\xbb\0\0\0\xee\x02\0\x04\0\x10\0\0\0\0\0\0\0\0\0\0\0\0\0\0\0\0\0\0\0";
-
 const INITIALIZE_44100: &[u8] =
     b"\x02\0\0\0\0\0\0\0\0\0\0\0\0\0\0\0\0\0\0\0\0\0\0\0\0\0\0\0\0\0\0\0\x12\0\x01\0\x02\0\x44\xac\0\0\x10\xb1\x02\0\x04\0\x10\0\0\0\0\0\0\0\0\0\0\0\0\0\0\0\0\0\0\0";
+
+/// The same of client 2 with 48,000 Hz and a cbSize of 7, which isn't looked at with tag 1.
+const INITIALIZE_CB_SIZE: &[u8] =
+    b"\x02\0\0\0\0\0\0\0\0\0\0\0\0\0\0\0\0\0\0\0\0\0\0\0\0\0\0\0\0\0\0\0\x12\0\x01\0\x02\0\x80\xbb\0\0\0\xee\x02\0\x04\0\x10\0\x07\0\0\0\0\0\0\0\0\0\0\0\0\0\0\0\0\0";
 
 /// Activate (endpoint 1, role 0).
 pub const ACTIVATE_1: &[u8] = b"\x01\0\0\0\0";
@@ -158,7 +156,7 @@ const BUFFERS: &[Row] = &[
     ),
 ];
 
-/// Start, Stop and Reset; a stream's latency and periods; a hang-up.
+/// Start, Stop and Reset; a stream's latency and periods; a hang-up; another client after the first.
 const CONTROLS: &[Row] = &[
     (
         STARTED,
@@ -208,6 +206,14 @@ const CONTROLS: &[Row] = &[
             (Ask::Call(19, ONE), E_HANDLE, b""),
         ],
     ),
+    (
+        STARTED,
+        &[
+            (Ask::Call(6, ONE), S_OK, b""),
+            (Ask::Call(5, ACTIVATE_1), S_OK, TWO),
+            (Ask::Call(16, INITIALIZE_CB_SIZE), S_OK, TWO),
+        ],
+    ),
 ];
 
 /// A usual player, from the endpoint's format to the release of its client.
@@ -239,7 +245,7 @@ const REFUSALS: &[Row] = &[
     (
         STARTED,
         &[
-            (Ask::Call(16, INITIALIZE_1), ALREADY_INITIALIZED, b""),
+            (Ask::Initialize(1, 1, 0, 0), ALREADY_INITIALIZED, b""),
             (Ask::Call(200, b"abc"), E_NOTIMPL, b""),
             (Ask::Call(19, OTHER), E_HANDLE, b""),
             (Ask::Call(20, SUPPORTS_44100), S_FALSE, MIX_FORMAT),
@@ -284,30 +290,5 @@ fn the_sixty_fifth_client_is_refused(rt: HostRuntime) -> Result<(), Fail> {
     let got = replay(alloc, &input, &[], &[], &[])?;
     assert_eq!(rt; got.status, Status::Done);
     assert!(rt; got.output.ends_with(&output));
-    Ok(())
-}
-
-#[test]
-fn what_is_missing_sounds_as_silence(rt: HostRuntime) -> Result<(), Fail> {
-    let alloc = rt.alloc();
-    let mut input = joined(alloc, STARTED)?;
-    let mut output = Vec::new(alloc);
-    put(
-        &(Ask::Call(32, b"\x01\0\0\0\0\0\0\0\x64\0\0\0"), S_OK, b""),
-        &mut input,
-        &mut output,
-    )?;
-    input.extend_from_slice(
-        b"\xa7\x01\0\0\x03\x01\x09\0\0\0\x21\x01\0\0\0\0\0\0\0\x64\0\0\0\0\0\0\0",
-    )?;
-    input.extend_from_slice(&[7; 400])?;
-    for ask in [Ask::Call(23, ONE), Ask::Period] {
-        put(&(ask, S_OK, b""), &mut input, &mut output)?;
-    }
-    let got = replay(alloc, &input, &[], &[], &[])?;
-    assert_eq!(rt; got.status, Status::Done);
-    assert_eq!(rt; got.device.len(), 1920);
-    assert!(rt; got.device.starts_with(&[7; 400]));
-    assert!(rt; got.device.ends_with(&[0; 1520]));
     Ok(())
 }

@@ -1,9 +1,10 @@
 //! Rows of calls on sessions and levels, each worked out by hand, and what is heard of them.
 
-use crate::exchanges::{Ask, Exchange, Row, holds, put};
-use crate::rows::{E_HANDLE, ONE, S_OK, TWO};
+use crate::exchanges::{Ask, Exchange, Row, holds, put, put_opening};
+use crate::rows::{E_HANDLE, GET_1, NO_PADDING, ONE, PLAYED_480, S_OK, TWO};
 use crate::run::Status;
 use crate::tests::{ACTIVATE, ADD, INITIALIZE, OPEN, joined, replay};
+use ca_base::values::STREAM_CROSSPROCESS;
 use std::alloc::Global;
 use std::test::Fail;
 
@@ -17,17 +18,6 @@ const SESSIONS_FULL: u32 = 0xa004_0003;
 pub const OPEN_2: &[u8] = b"\x0c\0\0\0\x01\x02\x0b\0\0\0\x04\0\x67\x61\x6d\x65";
 
 pub const ACTIVATE_2: &[u8] = b"\x0c\0\0\0\x03\x02\x01\0\0\0\x05\x01\0\0\0\0";
-
-/// Initialize (client, shared, flags, duration 0, period 0, the endpoint's format, null GUID): of clients 1 and 2 with
-/// CROSSPROCESS, and of client 2 with no flag.
-const SHARED_1: &[u8] =
-    b"\x01\0\0\0\0\0\0\0\0\0\0\0\0\0\x01\0\0\0\0\0\0\0\0\0\0\0\0\0\0\0\0\0\x12\0\x01\0\x02\0\x80\xbb\0\0\0\xee\x02\0\x04\0\x10\0\0\0\0\0\0\0\0\0\0\0\0\0\0\0\0\0\0\0";
-
-const SHARED_2: &[u8] =
-    b"\x02\0\0\0\0\0\0\0\0\0\0\0\0\0\x01\0\0\0\0\0\0\0\0\0\0\0\0\0\0\0\0\0\x12\0\x01\0\x02\0\x80\xbb\0\0\0\xee\x02\0\x04\0\x10\0\0\0\0\0\0\0\0\0\0\0\0\0\0\0\0\0\0\0";
-
-pub const OWN_2: &[u8] =
-    b"\x02\0\0\0\0\0\0\0\0\0\0\0\0\0\0\0\0\0\0\0\0\0\0\0\0\0\0\0\0\0\0\0\x12\0\x01\0\x02\0\x80\xbb\0\0\0\xee\x02\0\x04\0\x10\0\0\0\0\0\0\0\0\0\0\0\0\0\0\0\0\0\0\0";
 
 /// SetMaster of session 1: half, all, and more than that; of session 2.
 const HALF: &[u8] = b"\x01\0\0\0\0\0\0\0\0\x80\0\0\0\0\0\0\0\0\0\0\0\0\0\0\0\0\0\0";
@@ -53,7 +43,7 @@ const RIGHT_OFF: &[u8] = b"\x01\0\0\0\0\0\0\0\x01\0\0\0\0\0\0\0";
 
 const NO_CHANNEL: &[u8] = b"\x01\0\0\0\0\0\0\0\x02\0\0\0\0\0\0\0";
 
-const RIGHT: &[u8] = b"\x01\0\0\0\0\0\0\0\x01\0\0\0";
+pub const RIGHT: &[u8] = b"\x01\0\0\0\0\0\0\0\x01\0\0\0";
 
 /// SetDisplayName of session 1: `Music`, and bytes that aren't UTF-8.
 const MUSIC: &[u8] =
@@ -61,17 +51,27 @@ const MUSIC: &[u8] =
 
 const NO_TEXT: &[u8] = b"\x01\0\0\0\0\0\0\0\0\0\0\0\0\0\0\0\0\0\0\0\0\0\0\0\x01\0\xff";
 
+/// GetPosition of one frame that was rendered, at 48,000 Hz.
+const POSITION_1: &[u8] = b"\x01\0\0\0\0\0\0\0\x80\xbb\0\0\0\0\0\0";
+
 /// EnumSessions of endpoints 1 and 2.
-const ENDPOINT: &[u8] = b"\x01\0\0\0";
+pub const ENDPOINT: &[u8] = b"\x01\0\0\0";
 
 const NO_ENDPOINT: &[u8] = b"\x02\0\0\0";
 
-/// The data of session 1: as it is made; and active, muted, at half, with the name `Music`.
-const NEW: &[u8] =
+/// The data of session 1: as it is made; active, muted, at half, with the name `Music`; the same, but inactive.
+pub const NEW: &[u8] =
     b"\x01\0\0\0\x0a\0\0\0\0\0\0\x01\0\0\x02\0\0\0\0\0\x01\0\0\0\x01\0\0\0\x01\0\0\0\0\0\0\0\0\0\0\0\0\0\0\0\0\0\06\0endpoint-1|player|00000000-0000-0000-0000-0000000000009\0endpoint-1|player|00000000-0000-0000-0000-000000000000|10\0\0\0\0";
 
 const CHANGED: &[u8] =
     b"\x01\0\0\0\x0a\0\0\0\x01\0\x80\0\0\x01\x02\0\0\0\0\0\x01\0\0\0\x01\0\0\0\x01\0\0\0\0\0\0\0\0\0\0\0\0\0\0\0\0\0\06\0endpoint-1|player|00000000-0000-0000-0000-0000000000009\0endpoint-1|player|00000000-0000-0000-0000-000000000000|10\x05\0Music\0\0";
+
+const STOPPED: &[u8] =
+    b"\x01\0\0\0\x0a\0\0\0\0\0\x80\0\0\x01\x02\0\0\0\0\0\x01\0\0\0\x01\0\0\0\x01\0\0\0\0\0\0\0\0\0\0\0\0\0\0\0\0\0\06\0endpoint-1|player|00000000-0000-0000-0000-0000000000009\0endpoint-1|player|00000000-0000-0000-0000-000000000000|10\x05\0Music\0\0";
+
+/// The data of session 1 of all processes, whose GUID has the bytes `ab`: of process 0, and with the name `*`.
+const CROSS: &[u8] =
+    b"\x01\0\0\0\0\0\0\0\0\0\0\x01\0\0\x02\0\0\0\0\0\x01\0\0\0\x01\0\0\0\x01\0\0\0\0\0\0\0\0\0\0\0\0\0\0\0\0\0\01\0endpoint-1|*|abababab-abab-abab-abab-abababababab3\0endpoint-1|*|abababab-abab-abab-abab-abababababab|0\0\0\0\0";
 
 /// An endpoint and client 1 of connection 1; with its stream; and with client 2 of connection 2.
 const STARTED: &[&[u8]] = &[ADD, OPEN, ACTIVATE, INITIALIZE];
@@ -95,6 +95,8 @@ const SESSIONS: &[Row] = &[
             (Ask::Call(53, MUSIC), S_OK, b""),
             (Ask::Call(23, ONE), S_OK, b""),
             (Ask::Call(49, ONE), S_OK, CHANGED),
+            (Ask::Call(24, ONE), S_OK, b""),
+            (Ask::Call(49, ONE), S_OK, STOPPED),
             (Ask::Call(6, ONE), S_OK, b""),
             (Ask::Call(49, ONE), E_NOTFOUND, b""),
         ],
@@ -120,14 +122,32 @@ const SESSIONS: &[Row] = &[
     (
         TWO_CLIENTS,
         &[
-            (Ask::Call(16, SHARED_1), S_OK, ONE),
-            (Ask::Call(16, SHARED_2), E_HANDLE, b""),
-            (Ask::On(2, 16, SHARED_2), S_OK, ONE),
+            (Ask::Initialize(1, 1, STREAM_CROSSPROCESS, 0), S_OK, ONE),
+            (Ask::Initialize(1, 2, STREAM_CROSSPROCESS, 0), E_HANDLE, b""),
+            (Ask::Initialize(2, 2, STREAM_CROSSPROCESS, 0), S_OK, ONE),
         ],
     ),
     (
-        &[ADD, OPEN, OPEN_2, ACTIVATE, ACTIVATE_2, INITIALIZE],
-        &[(Ask::On(2, 16, OWN_2), S_OK, TWO)],
+        TWO_CLIENTS,
+        &[
+            (Ask::Initialize(1, 1, STREAM_CROSSPROCESS, 0xab), S_OK, ONE),
+            (Ask::Initialize(2, 2, STREAM_CROSSPROCESS, 0xab), S_OK, ONE),
+            (Ask::Call(49, ONE), S_OK, CROSS),
+        ],
+    ),
+    (
+        TWO_CLIENTS,
+        &[
+            (Ask::Initialize(1, 1, 0, 0), S_OK, ONE),
+            (Ask::Initialize(2, 2, 0, 0), S_OK, TWO),
+        ],
+    ),
+    (
+        TWO_CLIENTS,
+        &[
+            (Ask::Initialize(1, 1, 0, 0xab), S_OK, ONE),
+            (Ask::Initialize(2, 2, 0, 0xab), S_OK, TWO),
+        ],
     ),
 ];
 
@@ -157,27 +177,32 @@ const HEARD: &[Heard] = &[
     ),
 ];
 
-/// Whether the frame that is heard is the first that the device gets.
+/// Whether the frame that is heard is the first that the device gets, and counts as rendered.
 fn is_heard(alloc: Global, heard: &Heard) -> Result<bool, Fail> {
     let (sets, played, frame) = *heard;
+    let plays: [Exchange; 6] = [
+        (Ask::Call(32, GET_1), S_OK, b""),
+        (Ask::Frames(1, 1, 0, played), S_OK, b""),
+        (Ask::Call(23, ONE), S_OK, b""),
+        (Ask::Period, S_OK, PLAYED_480),
+        (Ask::Call(19, ONE), S_OK, NO_PADDING),
+        (Ask::Call(28, ONE), S_OK, POSITION_1),
+    ];
     let mut input = joined(alloc, STARTED)?;
     let mut output = Vec::new(alloc);
     for exchange in sets {
         put(exchange, &mut input, &mut output)?;
     }
-    input.extend_from_slice(b"\x13\0\0\0\x03\x01\x09\0\0\0\x20\x01\0\0\0\0\0\0\0\x01\0\0\0")?;
-    input.extend_from_slice(
-        b"\x1b\0\0\0\x03\x01\x09\0\0\0\x21\x01\0\0\0\0\0\0\0\x01\0\0\0\0\0\0\0",
-    )?;
-    input.extend_from_slice(&played)?;
-    put(&(Ask::Call(23, ONE), S_OK, b""), &mut input, &mut output)?;
-    put(
-        &(Ask::Period, S_OK, b"\xe0\x01\0\0\0"),
-        &mut input,
-        &mut output,
-    )?;
+    for exchange in &plays {
+        put(exchange, &mut input, &mut output)?;
+    }
     let got = replay(alloc, &input, &[], &[], &[])?;
-    Ok(got.status == Status::Done && got.device.starts_with(&frame) && got.device.len() == 1920)
+    Ok(
+        got.status == Status::Done
+            && got.output.ends_with(&output)
+            && got.device.starts_with(&frame)
+            && got.device.len() == 1920,
+    )
 }
 
 #[test]
@@ -198,24 +223,13 @@ fn levels_are_heard(rt: HostRuntime) -> Result<(), Fail> {
     Ok(())
 }
 
-/// Initialize of client `n`, the last client as yet, with a session of its own: its GUID is its number.
-fn put_session(n: u8, input: &mut Vec<u8>) -> Result<(), Fail> {
-    input.extend_from_slice(ACTIVATE)?;
-    input.extend_from_slice(b"\x4b\0\0\0\x03\x01\x09\0\0\0\x10")?;
-    input.extend_from_slice(&[n, 0, 0, 0, 0, 0, 0, 0])?;
-    input.extend_from_slice(&[0; 24])?;
-    input.extend_from_slice(b"\x12\0\x01\0\x02\0\x80\xbb\0\0\0\xee\x02\0\x04\0\x10\0\0\0")?;
-    input.extend_from_slice(&[0; 15])?;
-    input.extend_from_slice(&[n])?;
-    Ok(())
-}
-
 #[test]
 fn the_forty_ninth_session_is_refused(rt: HostRuntime) -> Result<(), Fail> {
     let alloc = rt.alloc();
     let mut input = joined(alloc, &[ADD, OPEN])?;
     for n in 1..50 {
-        put_session(n, &mut input)?;
+        input.extend_from_slice(ACTIVATE)?;
+        put_opening(1, n, 0, n, &mut input)?;
     }
     let got = replay(alloc, &input, &[], &[], &[])?;
     assert_eq!(rt; got.status, Status::Done);

@@ -30,6 +30,7 @@ enum Ask {
     /// GetBuffer and ReleaseBuffer of so many silent frames.
     Put(u32),
     Start,
+    Stop,
     Reset,
     Release,
     Hangup,
@@ -42,16 +43,25 @@ enum Ask {
 type Row = (Ask, [u128; 5]);
 
 /// Runs of a client with a buffer of one second. The third call of the device fails.
-const RUNS: [&[Row]; 4] = [
-    // of 48,480 frames two periods are rendered, and the rest is dropped as the device fails
+const RUNS: [&[Row]; 5] = [
+    // a usual player: of 48,480 frames two periods are rendered, and the rest is dropped as its client is released
     &[
         (Ask::Put(48_000), [48_000, 0, 48_000, 0, 0]),
         (Ask::Start, [48_000, 0, 48_000, 0, 0]),
         (Ask::Period, [48_000, 480, 47_520, 0, 0]),
         (Ask::Put(480), [48_480, 480, 48_000, 0, 0]),
         (Ask::Period, [48_480, 960, 47_520, 0, 0]),
-        (Ask::Period, [48_480, 960, 0, 0, 47_520]),
+        (Ask::Stop, [48_480, 960, 47_520, 0, 0]),
         (Ask::Release, [48_480, 960, 0, 0, 47_520]),
+    ],
+    // two periods are rendered, and the rest is dropped as the device fails
+    &[
+        (Ask::Put(48_000), [48_000, 0, 48_000, 0, 0]),
+        (Ask::Start, [48_000, 0, 48_000, 0, 0]),
+        (Ask::Period, [48_000, 480, 47_520, 0, 0]),
+        (Ask::Period, [48_000, 960, 47_040, 0, 0]),
+        (Ask::Period, [48_000, 960, 0, 0, 47_040]),
+        (Ask::Release, [48_000, 960, 0, 0, 47_040]),
     ],
     // 7 frames are reset, and 7 are dropped with their client
     &[
@@ -60,10 +70,10 @@ const RUNS: [&[Row]; 4] = [
         (Ask::Put(7), [14, 0, 7, 7, 0]),
         (Ask::Release, [14, 0, 0, 7, 7]),
     ],
-    // 5 frames are dropped with their connection
+    // 7 frames are dropped with their connection
     &[
-        (Ask::Put(5), [5, 0, 5, 0, 0]),
-        (Ask::Hangup, [5, 0, 0, 0, 5]),
+        (Ask::Put(7), [7, 0, 7, 0, 0]),
+        (Ask::Hangup, [7, 0, 0, 0, 7]),
     ],
     // and 6 with the service
     &[
@@ -125,6 +135,9 @@ fn is_granted(core: &mut Core<MemDevices, PlainStore>, alloc: Global, ask: Ask) 
         }
         Ask::Start => core
             .call(CONNECTION, &Call::Start { client: CLIENT })
+            .is_ok(),
+        Ask::Stop => core
+            .call(CONNECTION, &Call::Stop { client: CLIENT })
             .is_ok(),
         Ask::Reset => core
             .call(CONNECTION, &Call::Reset { client: CLIENT })

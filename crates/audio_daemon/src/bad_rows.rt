@@ -1,0 +1,399 @@
+//! What is refused while a stream plays. Each refusal has its code and no payload, and the stream plays on as if what
+//! was refused had not come: the same replies follow, and the device gets the same bytes. All of it is worked out by
+//! hand.
+
+use crate::exchanges::{Ask, Exchange, put, put_call, put_reply};
+use crate::heard_rows::{Frames, LOUD, LOUDER, SILENCE, THREE, bytes_of};
+use crate::notice_rows::ALL_SESSIONS;
+use crate::rows::{
+    ACTIVATE_1, ALREADY_INITIALIZED, BUFFER_TOO_LARGE, E_HANDLE, E_NOINTERFACE, E_NOTIMPL, GET_7,
+    GET_480, INVALID_SIZE, NOT_INITIALIZED, NOT_STOPPED, ONE, OUT_OF_ORDER, PLAYED_480, S_OK, TWO,
+    WRONG_ENDPOINT_TYPE,
+};
+use crate::run::Status;
+use crate::session_rows::{ACTIVATE_2, E_INVALIDARG, E_NOTFOUND, ENDPOINT, NEW, OPEN_2, RIGHT};
+use crate::tests::{ACTIVATE, ADD, INITIALIZE, OPEN, joined, replay};
+use std::alloc::Global;
+use std::test::Fail;
+
+/// Client 1 has a stream and client 2 has none; client 3 is one of connection 2; client 4 is to be released.
+const FIRST: &[&[u8]] = &[
+    ADD, OPEN, OPEN_2, ACTIVATE, ACTIVATE, ACTIVATE_2, ACTIVATE, INITIALIZE,
+];
+
+/// Client 5, once the four have come.
+const FIVE: &[u8] = b"\x05\0\0\0\0\0\0\0";
+
+/// GetStreamLevel of client 1, channel 0; and a level that changes nothing.
+const LEFT: &[u8] = b"\x01\0\0\0\0\0\0\0\0\0\0\0";
+
+const WHOLE: &[u8] = b"\0\0\x01\0";
+
+/// GetPosition of 487 frames that were rendered, at 48,000 Hz.
+const POSITION_487: &[u8] = b"\xe7\x01\0\0\0\0\0\0\x80\xbb\0\0\0\0\0\0";
+
+/// The longest name of a connection, and one byte more.
+const NAME_64: &[u8] = &[b'a'; 64];
+
+const NAME_65: &[u8] = &[b'a'; 65];
+
+/// How a stream plays 480 frames, and then 7 frames. What shows that nothing was left by a refusal follows.
+const PLAYS: &[Exchange] = &[
+    (Ask::Call(6, b"\x04\0\0\0\0\0\0\0"), S_OK, b""),
+    (Ask::Call(32, GET_480), S_OK, b""),
+    (Ask::Frames(1, 480, 0, LOUD), S_OK, b""),
+    (Ask::Call(23, ONE), S_OK, b""),
+    (Ask::Call(7, ALL_SESSIONS), S_OK, ONE),
+    (Ask::Call(32, GET_7), S_OK, b""),
+    (Ask::Frames(1, 7, 0, LOUDER), S_OK, b""),
+    (Ask::Call(19, ONE), S_OK, b"\xe7\x01\0\0"),
+    (Ask::Period, S_OK, PLAYED_480),
+    (Ask::Call(19, ONE), S_OK, b"\x07\0\0\0"),
+    (Ask::Period, S_OK, PLAYED_480),
+    (Ask::Call(28, ONE), S_OK, POSITION_487),
+    (Ask::Call(9, b"\xe8\x03\0\0"), S_OK, &[0; 16]),
+    (Ask::Call(24, ONE), S_OK, b""),
+    (Ask::Call(49, ONE), S_OK, NEW),
+    (Ask::Call(29, LEFT), S_OK, WHOLE),
+    (Ask::Call(29, RIGHT), S_OK, WHOLE),
+    (
+        Ask::Call(48, ENDPOINT),
+        S_OK,
+        b"\x01\0\0\0\x01\0\0\0\0\0\0\0",
+    ),
+    (Ask::Initialize(1, 2, 0, 2), S_OK, TWO),
+    (Ask::On(2, 6, THREE), S_OK, b""),
+    (Ask::Call(5, ACTIVATE_1), S_OK, FIVE),
+    (Ask::OpenAs(3, 12, NAME_64), S_OK, b""),
+];
+
+/// The places in it before and after the second GetBuffer: the stream runs, and no lease or one of 7 frames is held.
+const FREE: usize = 5;
+
+pub const LEASED: usize = 6;
+
+/// What the device gets of it.
+const SOUND: &[Frames] = &[(480, LOUD), (7, LOUDER), (473, SILENCE)];
+
+/// A call's code and the bytes of its fields after the first one, which is a client or a session.
+type Call = (u8, &'static [u8]);
+
+/// Calls that any client may make, and those that need a stream; calls on a session.
+const CLIENT_CALLS: &[Call] = &[
+    (6, b""),
+    (
+        20,
+        b"\0\0\0\0\x12\0\x01\0\x02\0\x80\xbb\0\0\0\xee\x02\0\x04\0\x10\0\0\0",
+    ),
+    (21, b""),
+    (22, b""),
+];
+
+const STREAM_CALLS: &[Call] = &[
+    (17, b""),
+    (18, b""),
+    (19, b""),
+    (23, b""),
+    (24, b""),
+    (25, b""),
+    (27, b"\x01\0\0\0"),
+    (28, b""),
+    (29, b"\0\0\0\0"),
+    (30, b"\0\0\0\0\0\0\0\0"),
+    (32, b"\x01\0\0\0"),
+    (33, b"\0\0\0\0\x02\0\0\0"),
+    (34, b""),
+    (35, b""),
+    (36, b"\xe0\x01\0\0"),
+];
+
+const SESSION_CALLS: &[Call] = &[
+    (49, b""),
+    (50, &[0; 20]),
+    (51, &[0; 17]),
+    (52, &[0; 24]),
+    (53, &[0; 18]),
+    (54, &[0; 18]),
+    (55, &[0; 32]),
+];
+
+/// Numbers of a client of another connection, of one that was released, and of none that there ever was.
+const NO_CLIENTS: [u64; 5] = [3, 4, 0, 99, u64::MAX];
+
+const NO_SESSIONS: [u64; 3] = [0, 2, u64::MAX];
+
+/// A call of client 1 or on session 1, and its code.
+type Refused = (u8, &'static [u8], u32);
+
+/// Data calls while no lease is held, and while 7 frames are leased: another length than that of the frames, too.
+const UNLEASED: &[Refused] = &[
+    (32, b"\xe1\x01\0\0", BUFFER_TOO_LARGE),
+    (32, b"\xff\xff\xff\xff", BUFFER_TOO_LARGE),
+    (33, b"\0\0\0\0\x02\0\0\0", OUT_OF_ORDER),
+    (33, b"\x07\0\0\0\x02\0\0\0", OUT_OF_ORDER),
+    (33, b"\xff\xff\xff\xff\xff\xff\xff\xff", OUT_OF_ORDER),
+];
+
+const WRONG_DATA: &[Refused] = &[
+    (32, b"\0\0\0\0", OUT_OF_ORDER),
+    (32, b"\x01\0\0\0", OUT_OF_ORDER),
+    (32, b"\xff\xff\xff\xff", OUT_OF_ORDER),
+    (33, b"\x08\0\0\0\x02\0\0\0", INVALID_SIZE),
+    (33, b"\x08\0\0\0\x04\0\0\0", INVALID_SIZE),
+    (33, b"\xff\xff\xff\xff\x02\0\0\0", INVALID_SIZE),
+    (33, b"\x01\0\0\0\x01\0\0\0four", E_INVALIDARG),
+    (33, b"\x01\0\0\0\x03\0\0\0four", E_INVALIDARG),
+    (33, b"\x01\0\0\0\x04\0\0\0four", E_INVALIDARG),
+    (33, b"\x01\0\0\0\x02\0\0\x80four", E_INVALIDARG),
+    (33, b"\x01\0\0\0\0\0\0\0", E_INVALIDARG),
+    (33, b"\x01\0\0\0\0\0\0\0abc", E_INVALIDARG),
+    (33, b"\x01\0\0\0\0\0\0\0fiver", E_INVALIDARG),
+    (33, b"\x07\0\0\0\0\0\0\0four", E_INVALIDARG),
+    (33, b"\x07\0\0\0\x02\0\0\0four", E_INVALIDARG),
+    (33, b"\0\0\0\0\0\0\0\0a", E_INVALIDARG),
+    (33, b"\0\0\0\0\x02\0\0\0a", E_INVALIDARG),
+];
+
+/// Calls at a wrong moment or of another kind of stream, and values out of their range: services and channels, levels
+/// of the stream and of the session.
+const WRONG_VALUES: &[Refused] = &[
+    (23, b"", NOT_STOPPED),
+    (25, b"", NOT_STOPPED),
+    (27, b"\0\0\0\0", E_NOINTERFACE),
+    (27, b"\x08\0\0\0", E_NOINTERFACE),
+    (27, b"\xff\xff\xff\xff", E_NOINTERFACE),
+    (27, b"\x02\0\0\0", WRONG_ENDPOINT_TYPE),
+    (29, b"\x02\0\0\0", E_INVALIDARG),
+    (29, b"\xff\xff\xff\xff", E_INVALIDARG),
+    (30, b"\x02\0\0\0\0\0\0\0", E_INVALIDARG),
+    (30, b"\xff\xff\xff\xff\0\0\0\0", E_INVALIDARG),
+    (30, b"\0\0\0\0\x01\0\x01\0", E_INVALIDARG),
+    (30, b"\x01\0\0\0\xff\xff\xff\xff", E_INVALIDARG),
+    (34, b"", WRONG_ENDPOINT_TYPE),
+    (35, b"", WRONG_ENDPOINT_TYPE),
+    (36, b"\0\0\0\0", WRONG_ENDPOINT_TYPE),
+    (36, b"\xe0\x01\0\0", WRONG_ENDPOINT_TYPE),
+];
+
+/// A call on session 1, and its fields but for the context.
+const WRONG_LEVELS: &[Call] = &[
+    (50, b"\x01\0\x01\0"),
+    (50, b"\xff\xff\xff\xff"),
+    (51, b"\x02"),
+    (51, b"\xff"),
+    (52, b"\x02\0\0\0\0\0\0\0"),
+    (52, b"\xff\xff\xff\xff\0\0\0\0"),
+    (52, b"\0\0\0\0\x01\0\x01\0"),
+    (52, b"\x01\0\0\0\xff\xff\xff\xff"),
+];
+
+/// The context of a call that sets something: the null GUID.
+const NO_CONTEXT: &[u8] = &[0; 16];
+
+/// Texts that aren't UTF-8, each after its two bytes of length: a byte that begins nothing, a character that is cut,
+/// one that is longer than it must be, and half of a surrogate pair.
+const NO_TEXTS: [&[u8]; 4] = [
+    b"\x01\0\xff",
+    b"\x03\0a\xe2\x82",
+    b"\x02\0\xc0\x80",
+    b"\x03\0\xed\xa0\x80",
+];
+
+/// Events and calls that name something else: endpoints, roles, codes, connections and their names.
+const EVENTS: &[Exchange] = &[
+    (Ask::Initialize(1, 1, 0, 0), ALREADY_INITIALIZED, b""),
+    (Ask::Frames(1, 7, 1, LOUD), E_INVALIDARG, b""),
+    (Ask::Frames(1, 8, 0, LOUD), INVALID_SIZE, b""),
+    (Ask::Call(5, b"\0\0\0\0\0"), E_NOTFOUND, b""),
+    (Ask::Call(5, b"\x02\0\0\0\0"), E_NOTFOUND, b""),
+    (Ask::Call(5, b"\xff\xff\xff\xff\x03"), E_NOTFOUND, b""),
+    (Ask::Call(5, b"\x01\0\0\0\x03"), E_INVALIDARG, b""),
+    (Ask::Call(5, b"\x01\0\0\0\xfe"), E_INVALIDARG, b""),
+    (Ask::On(3, 5, ACTIVATE_1), E_HANDLE, b""),
+    (Ask::Call(48, b"\0\0\0\0"), E_NOTFOUND, b""),
+    (Ask::Call(48, b"\x02\0\0\0"), E_NOTFOUND, b""),
+    (Ask::Call(48, b"\xff\xff\xff\xff"), E_NOTFOUND, b""),
+    (Ask::On(3, 48, ENDPOINT), E_HANDLE, b""),
+    (Ask::Call(0, b""), E_NOTIMPL, b""),
+    (Ask::Call(15, ONE), E_NOTIMPL, b""),
+    (Ask::Call(31, ONE), E_NOTIMPL, b""),
+    (Ask::Call(37, ONE), E_NOTIMPL, b""),
+    (Ask::Call(255, b"abc"), E_NOTIMPL, b""),
+    (Ask::On(3, 255, b"abc"), E_HANDLE, b""),
+    (Ask::Device(0, b""), E_NOTIMPL, b""),
+    (Ask::Device(255, b"abc"), E_NOTIMPL, b""),
+    (Ask::PeriodOf(0), E_NOTFOUND, b""),
+    (Ask::PeriodOf(2), E_NOTFOUND, b""),
+    (Ask::HangupOf(3), E_HANDLE, b""),
+    (Ask::HangupOf(32), E_HANDLE, b""),
+    (Ask::OpenAs(1, 12, b"other"), E_INVALIDARG, b""),
+    (Ask::OpenAs(3, 0, b"other"), E_INVALIDARG, b""),
+    (Ask::OpenAs(3, 12, b""), E_INVALIDARG, b""),
+    (Ask::OpenAs(3, 12, NAME_65), E_INVALIDARG, b""),
+    (Ask::OpenAs(3, 12, b"a b"), E_INVALIDARG, b""),
+    (Ask::OpenAs(3, 12, b"a|b"), E_INVALIDARG, b""),
+    (Ask::OpenAs(3, 12, b"*"), E_INVALIDARG, b""),
+    (Ask::OpenAs(3, 12, b"\xc3\xbc"), E_INVALIDARG, b""),
+    (Ask::OpenAs(3, 12, b"\xff"), E_INVALIDARG, b""),
+];
+
+/// A stream that plays: the events before a place and after it, the replies to both, and what the device gets.
+#[derive(Drop)]
+pub struct Playing {
+    before: Vec<u8>,
+    after: Vec<u8>,
+    early: Vec<u8>,
+    late: Vec<u8>,
+    device: Vec<u8>,
+}
+
+impl Playing {
+    pub fn new(alloc: Global, place: usize) -> Result<Playing, Fail> {
+        let mut before = joined(alloc, FIRST)?;
+        let mut after = Vec::new(alloc);
+        let mut early = Vec::new(alloc);
+        let mut late = Vec::new(alloc);
+        for (i, exchange) in PLAYS.iter().enumerate() {
+            if i < place {
+                put(exchange, &mut before, &mut early)?;
+            } else {
+                put(exchange, &mut after, &mut late)?;
+            }
+        }
+        Ok(Playing {
+            before,
+            after,
+            early,
+            late,
+            device: bytes_of(alloc, SOUND)?,
+        })
+    }
+
+    /// Whether an event at the place has this reply, and all else is as if it had not come.
+    fn goes_on(&self, alloc: Global, event: &[u8], reply: &[u8]) -> Result<bool, Fail> {
+        let input = joined(alloc, &[&self.before, event, &self.after])?;
+        let output = joined(alloc, &[&self.early, reply, &self.late])?;
+        let got = replay(alloc, &input, &[], &[], &[])?;
+        Ok(
+            got.status == Status::Done
+                && got.output.ends_with(&output)
+                && got.device.as_slice() == self.device.as_slice(),
+        )
+    }
+
+    /// The same of an exchange.
+    fn answers(&self, alloc: Global, exchange: &Exchange) -> Result<bool, Fail> {
+        let mut event = Vec::new(alloc);
+        let mut reply = Vec::new(alloc);
+        put(exchange, &mut event, &mut reply)?;
+        self.goes_on(alloc, &event, &reply)
+    }
+
+    /// The same of a call whose fields are these, joined.
+    pub fn replies(
+        &self,
+        alloc: Global,
+        conn: u8,
+        call: u8,
+        fields: &[&[u8]],
+        code: u32,
+        payload: &[u8],
+    ) -> Result<bool, Fail> {
+        let fields = joined(alloc, fields)?;
+        let mut event = Vec::new(alloc);
+        let mut reply = Vec::new(alloc);
+        let head = put_call(conn, call, &fields, &mut event)?;
+        put_reply(head, code, payload, &mut reply)?;
+        self.goes_on(alloc, &event, &reply)
+    }
+
+    /// The same of a call that is refused.
+    pub fn refuses(
+        &self,
+        alloc: Global,
+        conn: u8,
+        call: u8,
+        fields: &[&[u8]],
+        code: u32,
+    ) -> Result<bool, Fail> {
+        self.replies(alloc, conn, call, fields, code, b"")
+    }
+
+    /// The same of a call whose client isn't one of its connection, or whose connection isn't open.
+    pub fn refuses_strangers(&self, alloc: Global, call: u8, rest: &[u8]) -> Result<bool, Fail> {
+        for number in &NO_CLIENTS {
+            let client = number.to_le_bytes();
+            if !self.refuses(alloc, 1, call, &[&client, rest], E_HANDLE)? {
+                return Ok(false);
+            }
+        }
+        Ok(
+            self.refuses(alloc, 2, call, &[ONE, rest], E_HANDLE)?
+                && self.refuses(alloc, 3, call, &[ONE, rest], E_HANDLE)?,
+        )
+    }
+}
+
+#[test]
+fn wrong_values_leave_no_trace(rt: HostRuntime) -> Result<(), Fail> {
+    let alloc = rt.alloc();
+    for (place, calls) in [
+        (FREE, UNLEASED),
+        (FREE, WRONG_VALUES),
+        (LEASED, WRONG_DATA),
+        (LEASED, WRONG_VALUES),
+    ] {
+        let playing = Playing::new(alloc, place)?;
+        assert!(rt; playing.goes_on(alloc, b"", b"")?);
+        for (code, rest, result) in calls {
+            assert!(rt; playing.refuses(alloc, 1, *code, &[ONE, rest], *result)?);
+        }
+    }
+    Ok(())
+}
+
+#[test]
+fn wrong_clients_leave_no_trace(rt: HostRuntime) -> Result<(), Fail> {
+    let alloc = rt.alloc();
+    let playing = Playing::new(alloc, LEASED)?;
+    for (code, rest) in CLIENT_CALLS {
+        assert!(rt; playing.refuses_strangers(alloc, *code, rest)?);
+    }
+    for (code, rest) in STREAM_CALLS {
+        assert!(rt; playing.refuses_strangers(alloc, *code, rest)?);
+        assert!(rt; playing.refuses(alloc, 1, *code, &[TWO, rest], NOT_INITIALIZED)?);
+    }
+    Ok(())
+}
+
+#[test]
+fn wrong_sessions_and_levels_leave_no_trace(rt: HostRuntime) -> Result<(), Fail> {
+    let alloc = rt.alloc();
+    let playing = Playing::new(alloc, LEASED)?;
+    for (code, rest) in SESSION_CALLS {
+        for number in &NO_SESSIONS {
+            let session = number.to_le_bytes();
+            assert!(rt; playing.refuses(alloc, 1, *code, &[&session, rest], E_NOTFOUND)?);
+        }
+        assert!(rt; playing.refuses(alloc, 3, *code, &[ONE, rest], E_HANDLE)?);
+    }
+    for (code, rest) in WRONG_LEVELS {
+        assert!(rt; playing.refuses(alloc, 1, *code, &[ONE, rest, NO_CONTEXT], E_INVALIDARG)?);
+    }
+    for text in &NO_TEXTS {
+        for code in [53, 54] {
+            assert!(rt; playing.refuses(alloc, 1, code, &[ONE, NO_CONTEXT, text], E_INVALIDARG)?);
+        }
+    }
+    Ok(())
+}
+
+#[test]
+fn wrong_events_leave_no_trace(rt: HostRuntime) -> Result<(), Fail> {
+    let alloc = rt.alloc();
+    let playing = Playing::new(alloc, LEASED)?;
+    for exchange in EVENTS {
+        assert!(rt; playing.answers(alloc, exchange)?);
+    }
+    Ok(())
+}
