@@ -1,8 +1,8 @@
 //! What is refused of formats and openings while a stream plays, which plays on as if it had not been asked. All of it
 //! is worked out by hand.
 
-use crate::bad_rows::{LEASED, Playing};
 use crate::exchanges::MIX_FORMAT;
+use crate::player::{LEASED, Playing};
 use crate::rows::{ONE, S_FALSE, TWO, UNSUPPORTED_FORMAT};
 use crate::session_rows::E_INVALIDARG;
 use crate::tests::joined;
@@ -56,8 +56,8 @@ const MALFORMED: &[Format] = &[
     ),
 ];
 
-/// Faults, three by three: of the tag and of cbSize; of the bits and of the valid bits; of the channels; of the rate; of
-/// the bytes a frame; of the bytes a second; of the sub-format. Then formats without a fault that don't match.
+/// Faults, three by three: of the tag and of cbSize; of the bits and of the valid bits; of the channels; of the rate;
+/// of the bytes a frame; of the bytes a second; of the sub-format. Then formats without a fault that don't match.
 const FAULTY: &[Format] = &[
     (b"\x03\0\x02\0\x80\xbb\0\0\0\xee\x02\0\x04\0\x10\0\0\0", b""),
     (b"\0\0\x02\0\x80\xbb\0\0\0\xee\x02\0\x04\0\x10\0\0\0", b""),

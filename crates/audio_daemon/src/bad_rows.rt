@@ -2,78 +2,18 @@
 //! was refused had not come: the same replies follow, and the device gets the same bytes. All of it is worked out by
 //! hand.
 
-use crate::exchanges::{Ask, Exchange, put, put_call, put_reply};
-use crate::heard_rows::{Frames, LOUD, LOUDER, SILENCE, THREE, bytes_of};
-use crate::notice_rows::ALL_SESSIONS;
+use crate::exchanges::{Ask, Exchange};
+use crate::heard_rows::LOUD;
+use crate::player::{FREE, LEASED, Playing};
 use crate::rows::{
-    ACTIVATE_1, ALREADY_INITIALIZED, BUFFER_TOO_LARGE, E_HANDLE, E_NOINTERFACE, E_NOTIMPL, GET_7,
-    GET_480, INVALID_SIZE, NOT_INITIALIZED, NOT_STOPPED, ONE, OUT_OF_ORDER, PLAYED_480, S_OK, TWO,
-    WRONG_ENDPOINT_TYPE,
+    ACTIVATE_1, ALREADY_INITIALIZED, BUFFER_TOO_LARGE, E_HANDLE, E_NOINTERFACE, E_NOTIMPL,
+    INVALID_SIZE, NOT_INITIALIZED, NOT_STOPPED, ONE, OUT_OF_ORDER, TWO, WRONG_ENDPOINT_TYPE,
 };
-use crate::run::Status;
-use crate::session_rows::{ACTIVATE_2, E_INVALIDARG, E_NOTFOUND, ENDPOINT, NEW, OPEN_2, RIGHT};
-use crate::tests::{ACTIVATE, ADD, INITIALIZE, OPEN, joined, replay};
-use std::alloc::Global;
+use crate::session_rows::{E_INVALIDARG, E_NOTFOUND, ENDPOINT};
 use std::test::Fail;
 
-/// Client 1 has a stream and client 2 has none; client 3 is one of connection 2; client 4 is to be released.
-const FIRST: &[&[u8]] = &[
-    ADD, OPEN, OPEN_2, ACTIVATE, ACTIVATE, ACTIVATE_2, ACTIVATE, INITIALIZE,
-];
-
-/// Client 5, once the four have come.
-const FIVE: &[u8] = b"\x05\0\0\0\0\0\0\0";
-
-/// GetStreamLevel of client 1, channel 0; and a level that changes nothing.
-const LEFT: &[u8] = b"\x01\0\0\0\0\0\0\0\0\0\0\0";
-
-const WHOLE: &[u8] = b"\0\0\x01\0";
-
-/// GetPosition of 487 frames that were rendered, at 48,000 Hz.
-const POSITION_487: &[u8] = b"\xe7\x01\0\0\0\0\0\0\x80\xbb\0\0\0\0\0\0";
-
-/// The longest name of a connection, and one byte more.
-const NAME_64: &[u8] = &[b'a'; 64];
-
+/// A name of a connection that is one byte too long.
 const NAME_65: &[u8] = &[b'a'; 65];
-
-/// How a stream plays 480 frames, and then 7 frames. What shows that nothing was left by a refusal follows.
-const PLAYS: &[Exchange] = &[
-    (Ask::Call(6, b"\x04\0\0\0\0\0\0\0"), S_OK, b""),
-    (Ask::Call(32, GET_480), S_OK, b""),
-    (Ask::Frames(1, 480, 0, LOUD), S_OK, b""),
-    (Ask::Call(23, ONE), S_OK, b""),
-    (Ask::Call(7, ALL_SESSIONS), S_OK, ONE),
-    (Ask::Call(32, GET_7), S_OK, b""),
-    (Ask::Frames(1, 7, 0, LOUDER), S_OK, b""),
-    (Ask::Call(19, ONE), S_OK, b"\xe7\x01\0\0"),
-    (Ask::Period, S_OK, PLAYED_480),
-    (Ask::Call(19, ONE), S_OK, b"\x07\0\0\0"),
-    (Ask::Period, S_OK, PLAYED_480),
-    (Ask::Call(28, ONE), S_OK, POSITION_487),
-    (Ask::Call(9, b"\xe8\x03\0\0"), S_OK, &[0; 16]),
-    (Ask::Call(24, ONE), S_OK, b""),
-    (Ask::Call(49, ONE), S_OK, NEW),
-    (Ask::Call(29, LEFT), S_OK, WHOLE),
-    (Ask::Call(29, RIGHT), S_OK, WHOLE),
-    (
-        Ask::Call(48, ENDPOINT),
-        S_OK,
-        b"\x01\0\0\0\x01\0\0\0\0\0\0\0",
-    ),
-    (Ask::Initialize(1, 2, 0, 2), S_OK, TWO),
-    (Ask::On(2, 6, THREE), S_OK, b""),
-    (Ask::Call(5, ACTIVATE_1), S_OK, FIVE),
-    (Ask::OpenAs(3, 12, NAME_64), S_OK, b""),
-];
-
-/// The places in it before and after the second GetBuffer: the stream runs, and no lease or one of 7 frames is held.
-const FREE: usize = 5;
-
-pub const LEASED: usize = 6;
-
-/// What the device gets of it.
-const SOUND: &[Frames] = &[(480, LOUD), (7, LOUDER), (473, SILENCE)];
 
 /// A call's code and the bytes of its fields after the first one, which is a client or a session.
 type Call = (u8, &'static [u8]);
@@ -117,10 +57,8 @@ const SESSION_CALLS: &[Call] = &[
     (55, &[0; 32]),
 ];
 
-/// Numbers of a client of another connection, of one that was released, and of none that there ever was.
-const NO_CLIENTS: [u64; 5] = [3, 4, 0, 99, u64::MAX];
-
-const NO_SESSIONS: [u64; 3] = [0, 2, u64::MAX];
+/// Numbers of sessions that there aren't.
+const NO_SESSIONS: [u64; 3] = [0, 3, u64::MAX];
 
 /// A call of client 1 or on session 1, and its code.
 type Refused = (u8, &'static [u8], u32);
@@ -236,103 +174,6 @@ const EVENTS: &[Exchange] = &[
     (Ask::OpenAs(3, 12, b"\xc3\xbc"), E_INVALIDARG, b""),
     (Ask::OpenAs(3, 12, b"\xff"), E_INVALIDARG, b""),
 ];
-
-/// A stream that plays: the events before a place and after it, the replies to both, and what the device gets.
-#[derive(Drop)]
-pub struct Playing {
-    before: Vec<u8>,
-    after: Vec<u8>,
-    early: Vec<u8>,
-    late: Vec<u8>,
-    device: Vec<u8>,
-}
-
-impl Playing {
-    pub fn new(alloc: Global, place: usize) -> Result<Playing, Fail> {
-        let mut before = joined(alloc, FIRST)?;
-        let mut after = Vec::new(alloc);
-        let mut early = Vec::new(alloc);
-        let mut late = Vec::new(alloc);
-        for (i, exchange) in PLAYS.iter().enumerate() {
-            if i < place {
-                put(exchange, &mut before, &mut early)?;
-            } else {
-                put(exchange, &mut after, &mut late)?;
-            }
-        }
-        Ok(Playing {
-            before,
-            after,
-            early,
-            late,
-            device: bytes_of(alloc, SOUND)?,
-        })
-    }
-
-    /// Whether an event at the place has this reply, and all else is as if it had not come.
-    fn goes_on(&self, alloc: Global, event: &[u8], reply: &[u8]) -> Result<bool, Fail> {
-        let input = joined(alloc, &[&self.before, event, &self.after])?;
-        let output = joined(alloc, &[&self.early, reply, &self.late])?;
-        let got = replay(alloc, &input, &[], &[], &[])?;
-        Ok(
-            got.status == Status::Done
-                && got.output.ends_with(&output)
-                && got.device.as_slice() == self.device.as_slice(),
-        )
-    }
-
-    /// The same of an exchange.
-    fn answers(&self, alloc: Global, exchange: &Exchange) -> Result<bool, Fail> {
-        let mut event = Vec::new(alloc);
-        let mut reply = Vec::new(alloc);
-        put(exchange, &mut event, &mut reply)?;
-        self.goes_on(alloc, &event, &reply)
-    }
-
-    /// The same of a call whose fields are these, joined.
-    pub fn replies(
-        &self,
-        alloc: Global,
-        conn: u8,
-        call: u8,
-        fields: &[&[u8]],
-        code: u32,
-        payload: &[u8],
-    ) -> Result<bool, Fail> {
-        let fields = joined(alloc, fields)?;
-        let mut event = Vec::new(alloc);
-        let mut reply = Vec::new(alloc);
-        let head = put_call(conn, call, &fields, &mut event)?;
-        put_reply(head, code, payload, &mut reply)?;
-        self.goes_on(alloc, &event, &reply)
-    }
-
-    /// The same of a call that is refused.
-    pub fn refuses(
-        &self,
-        alloc: Global,
-        conn: u8,
-        call: u8,
-        fields: &[&[u8]],
-        code: u32,
-    ) -> Result<bool, Fail> {
-        self.replies(alloc, conn, call, fields, code, b"")
-    }
-
-    /// The same of a call whose client isn't one of its connection, or whose connection isn't open.
-    pub fn refuses_strangers(&self, alloc: Global, call: u8, rest: &[u8]) -> Result<bool, Fail> {
-        for number in &NO_CLIENTS {
-            let client = number.to_le_bytes();
-            if !self.refuses(alloc, 1, call, &[&client, rest], E_HANDLE)? {
-                return Ok(false);
-            }
-        }
-        Ok(
-            self.refuses(alloc, 2, call, &[ONE, rest], E_HANDLE)?
-                && self.refuses(alloc, 3, call, &[ONE, rest], E_HANDLE)?,
-        )
-    }
-}
 
 #[test]
 fn wrong_values_leave_no_trace(rt: HostRuntime) -> Result<(), Fail> {

@@ -3,7 +3,7 @@
 ghost use Rattle.std.specs.Prelude.{◌≤◌};
 
 use crate::run::Status;
-use crate::tests::{OPEN, joined, replay};
+use crate::tests::{OPEN, Outcome, joined, replay};
 use std::alloc::Global;
 use std::test::Fail;
 
@@ -17,8 +17,8 @@ pub enum Ask {
     Call(u8, &'static [u8]),
     /// The same on another connection.
     On(u8, u8, &'static [u8]),
-    /// Initialize on this connection, of this client, with these flags: shared, duration 0, `MIX_FORMAT`, and a GUID each
-    /// of whose bytes is this one.
+    /// Initialize on this connection, of this client, with these flags: shared, duration 0, `MIX_FORMAT`, and a GUID
+    /// each of whose bytes is this one.
     Initialize(u8, u8, u32, u8),
     /// ReleaseBuffer of this client: so many frames with these flags, each of them this one.
     Frames(u8, u16, u32, [u8; 4]),
@@ -191,9 +191,13 @@ pub fn device_of(alloc: Global, row: &Row) -> Result<Option<Vec<u8>>, Fail> {
     for exchange in exchanges {
         put(exchange, &mut input, &mut output)?;
     }
-    let got = replay(alloc, &input, &[], &[], &[])?;
-    if got.status == Status::Done && got.output.ends_with(&output) {
-        return Ok(Some(got.device));
+    let Outcome {
+        status,
+        output: written,
+        device,
+    } = replay(alloc, &input, &[], &[], &[])?;
+    if status == Status::Done && written.ends_with(&output) {
+        return Ok(Some(device));
     }
     Ok(None)
 }

@@ -25,7 +25,7 @@ const GET_100: &[u8] = b"\x01\0\0\0\0\0\0\0\x64\0\0\0";
 
 const GET_1_OF_2: &[u8] = b"\x02\0\0\0\0\0\0\0\x01\0\0\0";
 
-const GET_1_OF_3: &[u8] = b"\x03\0\0\0\0\0\0\0\x01\0\0\0";
+pub const GET_1_OF_3: &[u8] = b"\x03\0\0\0\0\0\0\0\x01\0\0\0";
 
 pub const THREE: &[u8] = b"\x03\0\0\0\0\0\0\0";
 
@@ -84,8 +84,8 @@ const ONE_STREAM: &[Heard] = &[
     ),
 ];
 
-/// Frames of several clients at one place are added, and only the whole sum is clamped: 30,000 and 1, and 30,000 and -1,
-/// of one session; twice 30,000 and -30,000, of two sessions; and their opposite besides, of a third one.
+/// Frames of several clients at one place are added, and only the whole sum is clamped: (30,000, 1) and (30,000, -1) of
+/// one session; (30,000, -30,000) of each of two sessions; and besides these its opposite, of a third session.
 const MIXED: &[Heard] = &[
     (
         (

@@ -22,6 +22,8 @@ mod heard_rows;
 #[cfg(test)]
 mod notice_rows;
 #[cfg(test)]
+mod player;
+#[cfg(test)]
 mod rows;
 mod run;
 #[cfg(test)]
