@@ -4,7 +4,7 @@
 
 use crate::exchanges::{Ask, Exchange};
 use crate::heard_rows::LOUD;
-use crate::player::{FREE, LEASED, Playing};
+use crate::player::{BETWEEN, FREE, LEASED, Playing};
 use crate::rows::{
     ACTIVATE_1, ALREADY_INITIALIZED, BUFFER_TOO_LARGE, E_HANDLE, E_NOINTERFACE, E_NOTIMPL,
     INVALID_SIZE, NOT_INITIALIZED, NOT_STOPPED, ONE, OUT_OF_ORDER, TWO, WRONG_ENDPOINT_TYPE,
@@ -180,9 +180,9 @@ fn wrong_values_leave_no_trace(rt: HostRuntime) -> Result<(), Fail> {
     let alloc = rt.alloc();
     for (place, calls) in [
         (FREE, UNLEASED),
-        (FREE, WRONG_VALUES),
         (LEASED, WRONG_DATA),
         (LEASED, WRONG_VALUES),
+        (BETWEEN, WRONG_VALUES),
     ] {
         let playing = Playing::new(alloc, place)?;
         assert!(rt; playing.goes_on(alloc, b"", b"")?);

@@ -4,7 +4,8 @@ use crate::exchanges::{Ask, Exchange, put, put_call, put_reply};
 use crate::heard_rows::{Frames, GET_1_OF_3, LOUD, LOUDER, SILENCE, THREE, bytes_of};
 use crate::notice_rows::ALL_SESSIONS;
 use crate::rows::{
-    ACTIVATE_1, E_HANDLE, GET_7, GET_480, NO_PADDING, ONE, PLAYED_480, S_FALSE, S_OK, TWO,
+    ACTIVATE_1, E_HANDLE, GET_7, GET_480, INVALID_SIZE, NO_PADDING, ONE, PLAYED_480, S_FALSE, S_OK,
+    TWO,
 };
 use crate::run::Status;
 use crate::session_rows::{ACTIVATE_2, ENDPOINT, NEW, OPEN_2, RIGHT};
@@ -46,6 +47,7 @@ const PLAYS: &[Exchange] = &[
     (Ask::Call(23, ONE), S_OK, b""),
     (Ask::Call(7, ALL_SESSIONS), S_OK, ONE),
     (Ask::Call(32, GET_7), S_OK, b""),
+    (Ask::Frames(1, 8, 0, LOUDER), INVALID_SIZE, b""),
     (Ask::Frames(1, 7, 0, LOUDER), S_OK, b""),
     (Ask::Call(19, ONE), S_OK, b"\xe7\x01\0\0"),
     (Ask::Period, S_OK, PLAYED_480),
@@ -68,10 +70,13 @@ const PLAYS: &[Exchange] = &[
     (Ask::OpenAs(3, 12, NAME_64), S_OK, b""),
 ];
 
-/// The places in it before and after the second GetBuffer: the stream runs, and no lease or one of 7 frames is held.
+/// Places in it where the stream runs: before the second GetBuffer; after it, with a lease of 7 frames; and between the
+/// periods, with a padding of 7 frames.
 pub const FREE: usize = 7;
 
 pub const LEASED: usize = 8;
+
+pub const BETWEEN: usize = 12;
 
 /// What the device gets of it.
 const SOUND: &[Frames] = &[(480, LOUD), (7, LOUDER), (473, SILENCE)];
