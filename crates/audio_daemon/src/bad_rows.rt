@@ -63,7 +63,8 @@ const NO_SESSIONS: [u64; 3] = [0, 3, u64::MAX];
 /// A call of client 1 or on session 1, and its code.
 type Refused = (u8, &'static [u8], u32);
 
-/// Data calls while no lease is held, and while 7 frames are leased: another length than that of the frames, too.
+/// Data calls while no lease is held; and while 7 frames are leased, with more frames, other flags, and data of another
+/// length than that of the frames.
 const UNLEASED: &[Refused] = &[
     (32, b"\xe1\x01\0\0", BUFFER_TOO_LARGE),
     (32, b"\xff\xff\xff\xff", BUFFER_TOO_LARGE),
@@ -92,8 +93,8 @@ const WRONG_DATA: &[Refused] = &[
     (33, b"\0\0\0\0\x02\0\0\0a", E_INVALIDARG),
 ];
 
-/// Calls at a wrong moment or of another kind of stream, and values out of their range: services and channels, levels
-/// of the stream and of the session.
+/// Calls at a wrong moment or of another kind of stream, and values out of their range: services, channels, and levels
+/// of the stream.
 const WRONG_VALUES: &[Refused] = &[
     (23, b"", NOT_STOPPED),
     (25, b"", NOT_STOPPED),
