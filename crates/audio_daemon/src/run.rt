@@ -1,6 +1,7 @@
 //! The top call.
 
 ghost use Rattle.std.specs.Prelude.{◌≡◌};
+ghost use Rattle.ca_machine.specs.Complete.{UnrefusedIsGranted};
 ghost use Rattle.event_loop.specs.Ends.{RoseIf, moment};
 ghost use Rattle.event_loop.specs.Complete.{DidNotRise};
 ghost use Rattle.audio_daemon.specs.Run.{RunEnds, is_folder, is_replay, read_failed, status_of, write_failed};
@@ -8,7 +9,7 @@ ghost use Rattle.audio_daemon.specs.Complete.{Completes};
 
 use buffer_ring::PlainStore;
 use ca_base::{NoMemory, Sink, Source, Words};
-use ca_machine::headline::headline;
+use ca_machine::headline::{headline, unrefused_is_granted};
 use device_io::Devices;
 use event_loop::{LoopEnd, answer_events};
 use service_core::{Core, REPLY_ROOM};
@@ -89,8 +90,10 @@ pub fn run<S: Source, K: Sink, D: Devices>(
         → DidNotRise (K.faults output.old) (K.faults output.new)
         → Completes D.faults D.told words.now (moment (S.left input.old) (K.written output.old) devices)
         (moment (S.left input.new) (K.written output.new) result.1) result.0 }
+    ensures grants { UnrefusedIsGranted }
 {
     headline();
+    unrefused_is_granted();
     if !are_replay(words) {
         return (Status::Usage, devices);
     }
