@@ -85,7 +85,8 @@ const ROWS: &[Row] = &[
             (
                 Ask::Call(4, ENDPOINT_2),
                 S_OK,
-                b"\0\x01\0\0\0\x01\x01\x12\0\x01\0\x02\0\x80\xbb\0\0\0\xee\x02\0\x04\0\x10\0\0\0\x0a\0endpoint-2\x07\0Headset",
+                b"\0\x01\0\0\0\x01\x01\x12\0\x01\0\x02\0\x80\xbb\0\0\0\xee\x02\0\x04\0\x10\0\0\0\x0a\0endpoint-\
+                  2\x07\0Headset",
             ),
             (Ask::Device(3, ENDPOINT_2), S_OK, b""),
             (Ask::Call(4, ENDPOINT_2), E_NOTFOUND, b""),

@@ -27,7 +27,8 @@ const SILENT_480_OF_2: &[u8] = b"\x02\0\0\0\0\0\0\0\xe0\x01\0\0\x02\0\0\0";
 
 /// SetFormat of endpoint 1: the format that it has, in its extensible form; 44,100 Hz.
 const EXTENSIBLE: &[u8] =
-    b"\x01\0\0\0\x28\0\xfe\xff\x02\0\x80\xbb\0\0\0\xee\x02\0\x04\0\x10\0\x16\0\x10\0\x03\0\0\0\x01\0\0\0\0\0\x10\0\x80\0\0\xaa\0\x38\x9b\x71";
+    b"\x01\0\0\0\x28\0\xfe\xff\x02\0\x80\xbb\0\0\0\xee\x02\0\x04\0\x10\0\x16\0\x10\0\x03\0\0\0\x01\0\0\0\0\0\
+      \x10\0\x80\0\0\xaa\0\x38\x9b\x71";
 
 const CD: &[u8] = b"\x01\0\0\0\x12\0\x01\0\x02\0\x44\xac\0\0\x10\xb1\x02\0\x04\0\x10\0\0\0";
 

@@ -61,17 +61,25 @@ const NO_ENDPOINT: &[u8] = b"\x02\0\0\0";
 
 /// The data of session 1: as it is made; active, muted, at half, with the name `Music`; the same, but inactive.
 pub const NEW: &[u8] =
-    b"\x01\0\0\0\x0a\0\0\0\0\0\0\x01\0\0\x02\0\0\0\0\0\x01\0\0\0\x01\0\0\0\x01\0\0\0\0\0\0\0\0\0\0\0\0\0\0\0\0\0\06\0endpoint-1|player|00000000-0000-0000-0000-0000000000009\0endpoint-1|player|00000000-0000-0000-0000-000000000000|10\0\0\0\0";
+    b"\x01\0\0\0\x0a\0\0\0\0\0\0\x01\0\0\x02\0\0\0\0\0\x01\0\0\0\x01\0\0\0\x01\0\0\0\0\0\0\0\0\0\0\0\0\0\0\0\0\
+      \0\06\0endpoint-1|player|00000000-0000-0000-0000-0000000000009\0endpoint-1|player|00000000-0000-0000-0000\
+      -000000000000|10\0\0\0\0";
 
 const CHANGED: &[u8] =
-    b"\x01\0\0\0\x0a\0\0\0\x01\0\x80\0\0\x01\x02\0\0\0\0\0\x01\0\0\0\x01\0\0\0\x01\0\0\0\0\0\0\0\0\0\0\0\0\0\0\0\0\0\06\0endpoint-1|player|00000000-0000-0000-0000-0000000000009\0endpoint-1|player|00000000-0000-0000-0000-000000000000|10\x05\0Music\0\0";
+    b"\x01\0\0\0\x0a\0\0\0\x01\0\x80\0\0\x01\x02\0\0\0\0\0\x01\0\0\0\x01\0\0\0\x01\0\0\0\0\0\0\0\0\0\0\0\0\0\0\
+      \0\0\0\06\0endpoint-1|player|00000000-0000-0000-0000-0000000000009\0endpoint-1|player|00000000-0000-0000-\
+      0000-000000000000|10\x05\0Music\0\0";
 
 const STOPPED: &[u8] =
-    b"\x01\0\0\0\x0a\0\0\0\0\0\x80\0\0\x01\x02\0\0\0\0\0\x01\0\0\0\x01\0\0\0\x01\0\0\0\0\0\0\0\0\0\0\0\0\0\0\0\0\0\06\0endpoint-1|player|00000000-0000-0000-0000-0000000000009\0endpoint-1|player|00000000-0000-0000-0000-000000000000|10\x05\0Music\0\0";
+    b"\x01\0\0\0\x0a\0\0\0\0\0\x80\0\0\x01\x02\0\0\0\0\0\x01\0\0\0\x01\0\0\0\x01\0\0\0\0\0\0\0\0\0\0\0\0\0\0\0\
+      \0\0\06\0endpoint-1|player|00000000-0000-0000-0000-0000000000009\0endpoint-1|player|00000000-0000-0000-00\
+      00-000000000000|10\x05\0Music\0\0";
 
 /// The data of session 1 of all processes, whose GUID has the bytes `ab`: of process 0, and with the name `*`.
 const CROSS: &[u8] =
-    b"\x01\0\0\0\0\0\0\0\0\0\0\x01\0\0\x02\0\0\0\0\0\x01\0\0\0\x01\0\0\0\x01\0\0\0\0\0\0\0\0\0\0\0\0\0\0\0\0\0\01\0endpoint-1|*|abababab-abab-abab-abab-abababababab3\0endpoint-1|*|abababab-abab-abab-abab-abababababab|0\0\0\0\0";
+    b"\x01\0\0\0\0\0\0\0\0\0\0\x01\0\0\x02\0\0\0\0\0\x01\0\0\0\x01\0\0\0\x01\0\0\0\0\0\0\0\0\0\0\0\0\0\0\0\0\0\
+      \01\0endpoint-1|*|abababab-abab-abab-abab-abababababab3\0endpoint-1|*|abababab-abab-abab-abab-abababababa\
+      b|0\0\0\0\0";
 
 /// An endpoint and client 1 of connection 1; with its stream; and with client 2 of connection 2.
 const STARTED: &[&[u8]] = &[ADD, OPEN, ACTIVATE, INITIALIZE];

@@ -18,7 +18,8 @@ pub const ACTIVATE: &[u8] = b"\x0c\0\0\0\x03\x01\x01\0\0\0\x05\x01\0\0\0\0";
 
 /// Initialize of client 1: shared, duration 0, the endpoint's format, tag 2.
 pub const INITIALIZE: &[u8] =
-    b"\x4b\0\0\0\x03\x01\x02\0\0\0\x10\x01\0\0\0\0\0\0\0\0\0\0\0\0\0\0\0\0\0\0\0\0\0\0\0\0\0\0\0\0\0\0\0\x12\0\x01\0\x02\0\x80\xbb\0\0\0\xee\x02\0\x04\0\x10\0\0\0\0\0\0\0\0\0\0\0\0\0\0\0\0\0\0\0";
+    b"\x4b\0\0\0\x03\x01\x02\0\0\0\x10\x01\0\0\0\0\0\0\0\0\0\0\0\0\0\0\0\0\0\0\0\0\0\0\0\0\0\0\0\0\0\0\0\x12\0\
+      \x01\0\x02\0\x80\xbb\0\0\0\xee\x02\0\x04\0\x10\0\0\0\0\0\0\0\0\0\0\0\0\0\0\0\0\0\0\0";
 
 /// GetBuffer of 480 frames, tag 3.
 const GET_BUFFER: &[u8] = b"\x13\0\0\0\x03\x01\x03\0\0\0\x20\x01\0\0\0\0\0\0\0\xe0\x01\0\0";
@@ -34,11 +35,13 @@ const PERIOD: &[u8] = b"\x05\0\0\0\x04\x01\0\0\0";
 
 /// The replies to Add, Open, Activate and Initialize.
 const STARTED: &[u8] =
-    b"\x0a\0\0\0\x05\0\0\0\0\0\0\0\0\0\x0a\0\0\0\x01\x01\0\0\0\0\0\0\0\0\x12\0\0\0\x03\x01\x01\0\0\0\0\0\0\0\x01\0\0\0\0\0\0\0\x12\0\0\0\x03\x01\x02\0\0\0\0\0\0\0\x01\0\0\0\0\0\0\0";
+    b"\x0a\0\0\0\x05\0\0\0\0\0\0\0\0\0\x0a\0\0\0\x01\x01\0\0\0\0\0\0\0\0\x12\0\0\0\x03\x01\x01\0\0\0\0\0\0\0\
+      \x01\0\0\0\0\0\0\0\x12\0\0\0\x03\x01\x02\0\0\0\0\0\0\0\x01\0\0\0\0\0\0\0";
 
 /// The replies to GetBuffer, ReleaseBuffer, Start and the period.
 const PLAYED: &[u8] =
-    b"\x0a\0\0\0\x03\x01\x03\0\0\0\0\0\0\0\x0a\0\0\0\x03\x01\x04\0\0\0\0\0\0\0\x0a\0\0\0\x03\x01\x05\0\0\0\0\0\0\0\x0f\0\0\0\x04\0\0\0\0\0\0\0\0\0\xe0\x01\0\0\0";
+    b"\x0a\0\0\0\x03\x01\x03\0\0\0\0\0\0\0\x0a\0\0\0\x03\x01\x04\0\0\0\0\0\0\0\x0a\0\0\0\x03\x01\x05\0\0\0\0\0\
+      \0\0\x0f\0\0\0\x04\0\0\0\0\0\0\0\0\0\xe0\x01\0\0\0";
 
 /// 480 frames: the samples of frame i are i and -i.
 fn frames(alloc: Global) -> Result<Vec<u8>, Fail> {
@@ -78,8 +81,8 @@ pub struct Outcome {
     pub device: Vec<u8>,
 }
 
-/// Runs over these bytes. Reads and writes of these numbers fail, and so do these calls of the device, of which a number
-/// other than 0 beside a call's says how many bytes it takes before the next one fails.
+/// Runs over these bytes. Reads and writes of these numbers fail, and so do these calls of the device, of which a
+/// number other than 0 beside a call's says how many bytes it takes before the next one fails.
 pub fn replay(
     alloc: Global,
     bytes: &[u8],
