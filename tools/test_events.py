@@ -19,6 +19,7 @@ USAGE = """usage: events run SCRIPT [--program PATH] [--input ENDPOINT=FILE]... 
        events show [--json] [--events | --replies] FILE
        events show [--json] EVENTS REPLIES [FOLDER]
        events spell SCRIPT
+       events module
        events --help [EVENT]
 """
 

@@ -3,6 +3,9 @@
 The program is PEHVONK_PROGRAM, or the one that the repository's gate or ./first-run --proved leaves.
 """
 import array
+import os
+import subprocess
+import sys
 import tempfile
 import unittest
 from pathlib import Path
@@ -78,6 +81,19 @@ class Runs(unittest.TestCase):
         self.assertEqual(vars(run.replies[period]),
                          {"event": "Period", "result": "S_OK", "frames": 80, "outcome": "done"})
         self.assertEqual(run.devices[1], pehvonk.Device(8000, 1, array.array("h", [5, -6] + [0] * 78)))
+
+    def test_the_module_as_one_file(self):
+        test = ("import pehvonk\nevents = pehvonk.Events()\n"
+                "events.Add(endpoint=1, flow='render', format='8000x1', name='Speakers')\n"
+                "period = events.Period(endpoint=1)\nprint(events.run().replies[period].frames)\n")
+        with tempfile.TemporaryDirectory() as folder:
+            tool = Path(__file__).resolve().with_name("events")
+            Path(folder, "pehvonk.py").write_bytes(
+                subprocess.run([sys.executable, str(tool), "module"], stdout=subprocess.PIPE, check=True).stdout)
+            Path(folder, "test.py").write_text(test)
+            done = subprocess.run([sys.executable, "test.py"], cwd=folder, capture_output=True, text=True,
+                                  env={"PATH": os.environ["PATH"], "PEHVONK_PROGRAM": PROGRAM})
+        self.assertEqual((done.stdout, done.stderr, done.returncode), ("80\n", "", 0))
 
     def test_numbers_are_those_of_the_replies(self):
         events, first = player()
