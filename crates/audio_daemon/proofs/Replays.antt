@@ -64,7 +64,8 @@ module _ {D : Type 0} (faults : D → ℕ) (told : D → Option (List DeviceLog)
   })
 
   one_more : (old mid new : MachineView D) (e : Event) (es : List Event) (r : Reply) (rs : List Reply)
-      → AnswersEvent faults told old e r mid → Found faults told mid es rs new → Found faults told old (e ∷ es) (r ∷ rs) new
+      → AnswersEvent faults told old e r mid → Found faults told mid es rs new
+      → Found faults told old (e ∷ es) (r ∷ rs) new
   one_more old mid new e es r rs first rest =
       let answers = flat_map-cons (λ (entry : Entry). entry.answers) first.entry rest.entries in
       let before = faults old.devices in
@@ -73,7 +74,7 @@ module _ {D : Type 0} (faults : D → ℕ) (told : D → Option (List DeviceLog)
       record {
         entries = first.entry ∷ rest.entries;
         events_are =
-            ap (λ (x : Event). x ∷ map (λ entry. entry.event) rest.entries) first.event-is
+            ap (λ (x : Event). x ∷ map (λ entry. entry.event) rest.entries) first.event_is
             ∙ ap (λ (xs : List Event). e ∷ xs) rest.events_are;
         run = (mid.state, first.steps, rest.run);
         replied = (first.replies, rest.replied);
@@ -83,7 +84,8 @@ module _ {D : Type 0} (faults : D → ℕ) (told : D → Option (List DeviceLog)
           subst (λ t. ToldAlong t rest.entries (told new.devices)) first.passes.tells rest.tells,
         );
         counts = subst (λ (xs : List Answer). FaultsAlong before xs after) (sym answers)
-            (faults-append before here after first.entry.answers (answers_of rest.entries) first.passes.counts rest.counts);
+            (faults-append before here after first.entry.answers (answers_of rest.entries) first.passes.counts
+            rest.counts);
       }
 
   found_in : (old new : MachineView D) (events : List Event) (replies : List Reply)

@@ -28,8 +28,8 @@ module _ {D : Type 0} (faults : D → ℕ) (told : D → Option (List DeviceLog)
       let after = moment left' written' result in
       subst (λ (s : Status). RunEnds faults told words (moment left written devices) after s) (sym is)
       (subst (λ (d : D). RunEnds faults told words (moment left written d) after (status_of end)) from
-      (subst (λ (d : D). RunEnds faults told words (moment left written old) (moment left' written' d) (status_of end)) (sym to)
-      (by_end (moment left written old) (moment left' written' new) end are h)))
+      (subst (λ (d : D). RunEnds faults told words (moment left written old) (moment left' written' d) (status_of end))
+      (sym to) (by_end (moment left written old) (moment left' written' new) end are h)))
 
 -- words that aren't two are other words
 pub other_count : (words : List (List ℕ)) (n : ℕ) → n ≡ length words → (n ≡ 2 → ⊥) → false ≡ is_replay words
@@ -39,22 +39,26 @@ other_count (a ∷ b ∷ []) n is not_two = absurd (not_two is)
 other_count (a ∷ b ∷ c ∷ words) n is not_two = refl
 
 -- of two words the first is the command, and the second the folder
-two : (words : List (List ℕ)) (command folder : List ℕ) (n : ℕ) → n ≡ length words → n ≡ 2 → Some command ≡ slice_get words 0 → Some folder ≡ slice_get words 1
+two : (words : List (List ℕ)) (command folder : List ℕ) (n : ℕ) → n ≡ length words → n ≡ 2
+    → Some command ≡ slice_get words 0 → Some folder ≡ slice_get words 1
     → bytes_eq command (codes "replay") && is_folder folder ≡ is_replay words
 two [] command folder n is count first second = absurd cc
 two (a ∷ []) command folder n is count first second = absurd cc
 two (a ∷ b ∷ []) command folder n is count first second =
     let at : command ≡ a = cc first in
     let there : folder ≡ b = cc second in
-    ap (λ (x : List ℕ). bytes_eq x (codes "replay") && is_folder folder) at ∙ ap (λ (x : List ℕ). bytes_eq a (codes "replay") && is_folder x) there
+    ap (λ (x : List ℕ). bytes_eq x (codes "replay") && is_folder folder) at
+    ∙ ap (λ (x : List ℕ). bytes_eq a (codes "replay") && is_folder x) there
 two (a ∷ b ∷ c ∷ words) command folder n is count first second = absurd (omega arith)
 
-pub same_command : (words : List (List ℕ)) (command folder : List ℕ) (n : ℕ) → n ≡ length words → n ≡ 2 → Some command ≡ slice_get words 0 → Some folder ≡ slice_get words 1
+pub same_command : (words : List (List ℕ)) (command folder : List ℕ) (n : ℕ) → n ≡ length words → n ≡ 2
+    → Some command ≡ slice_get words 0 → Some folder ≡ slice_get words 1
     → bytes_eq command (codes "replay") ≡ true → is_folder folder ≡ is_replay words
 same_command words command folder n is count first second h =
     ap (λ (b : Bool). b && is_folder folder) (sym h) ∙ two words command folder n is count first second
 
-pub other_command : (words : List (List ℕ)) (command folder : List ℕ) (n : ℕ) → n ≡ length words → n ≡ 2 → Some command ≡ slice_get words 0 → Some folder ≡ slice_get words 1
+pub other_command : (words : List (List ℕ)) (command folder : List ℕ) (n : ℕ) → n ≡ length words → n ≡ 2
+    → Some command ≡ slice_get words 0 → Some folder ≡ slice_get words 1
     → bytes_eq command (codes "replay") ≡ false → false ≡ is_replay words
 other_command words command folder n is count first second h =
     ap (λ (b : Bool). b && is_folder folder) (sym h) ∙ two words command folder n is count first second

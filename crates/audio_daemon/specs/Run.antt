@@ -33,9 +33,9 @@ EachReplies (entry ∷ entries) (r ∷ rs) = Replies entry r × EachReplies entr
 EachReplies [] (r ∷ rs) = ⊥
 EachReplies (entry ∷ entries) [] = ⊥
 
--- The events were answered by a run of the one-thread machine from its empty state: each reply is its entry's, the devices
--- gave what the machine's answers say and took its output, entry by entry, their count of faults rose as the machine's
--- answers say, and the headline holds.
+-- The events were answered by a run of the one-thread machine from its empty state: each reply is its entry's, the
+-- devices gave what the machine's answers say and took its output, entry by entry, their count of faults rose as the
+-- machine's answers say, and the headline holds.
 pub record Replayed {D : Type 0} (faults : D → ℕ) (told : D → Option (List DeviceLog)) (old : D)
     (events : List Event) (replies : List Reply) (new : D) : Type 0 where
   pub entries : List Entry
@@ -78,8 +78,8 @@ pub record Ran {D : Type 0} (faults : D → ℕ) (told : D → Option (List Devi
   pub ends : Ends (Replayed faults told) old new end
 
 -- what each status says
-abbrev pub RunEnds : {D : Type 0} → (D → ℕ) → (D → Option (List DeviceLog)) → List (List ℕ) → Moment D → Moment D → Status
-    → Type 0
+abbrev pub RunEnds : {D : Type 0} → (D → ℕ) → (D → Option (List DeviceLog)) → List (List ℕ) → Moment D → Moment D →
+    Status → Type 0
 RunEnds faults told words old new status.Usage = IsUsage words old new
 RunEnds faults told words old new status.Done = Ran faults told words old new ends.Done
 RunEnds faults told words old new (status.Malformed place) = Ran faults told words old new (ends.Malformed place)

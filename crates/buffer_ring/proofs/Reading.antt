@@ -1,5 +1,6 @@
 -- Words that a store in memory is read of: a list in two pieces, and one word after another.
-use Rattle.std.proofs.Common.{◌≡◌, ◌≢◌, ℕ, suc, ◌+◌, ◌-◌, ◌≤◌, ◌⊎◌, inl, inr, List, [], ◌∷◌, ◌++◌, length, take, drop, Some, refl, sym, ap, ◌∙◌, arith, append-nil}
+use Rattle.std.proofs.Common.{◌≡◌, ◌≢◌, ℕ, suc, ◌+◌, ◌-◌, ◌≤◌, ◌⊎◌, inl, inr, List, [], ◌∷◌, ◌++◌, length, take, drop}
+use Rattle.std.proofs.Common.{Some, refl, sym, ap, ◌∙◌, arith, append-nil}
 use Rattle.std.specs.List.{slice_get}
 use Rattle.std.proofs.Math.Seq.{take-length, drop-length, take-append-add, drop-append-add}
 use Rattle.std.proofs.lemmas.Bool.{cases_eq}
@@ -38,7 +39,7 @@ module _ (front back : List ℕ) where
       ∙ ap (λ l. l ++ drop (i - skipped) back) (drop-length front) ∙ sym (drop-append-add front back (i - skipped))
       ∙ ap (λ k. drop k (front ++ back)) both
 
--- so many words from a place on, out of both pieces
+-- n words from a place on, out of both pieces
 pub two_pieces : (front back : List ℕ) (i n skipped count : ℕ) → IsNearer skipped i (length front)
     → IsNearer count n (length (drop skipped front))
     → take count (drop skipped front) ++ take (n - count) (drop (i - skipped) back) ≡ take n (drop i (front ++ back))
@@ -46,7 +47,7 @@ two_pieces front back i n skipped count past near =
     take_at (drop skipped front) (drop (i - skipped) back) n count near (cases_eq count n)
     ∙ ap (take n) (drop_at front back i skipped past (cases_eq skipped i))
 
--- words that stand at a place are read there
+-- words that are at a place are read there
 reads_front : (k : Kept) (i : ℕ) (words rest : List ℕ) → drop i k.words ≡ words ++ rest
     → RunsSteps k (reads_from i words) k
 reads_front k i [] rest e = refl
@@ -58,7 +59,7 @@ reads_front k i (word ∷ words) rest e =
     ap (λ n. drop n k.words) more ∙ sym (drop-drop 1 i k.words) ∙ ap (drop 1) e in
     (k, (here, refl), reads_front k (suc i) words rest next)
 
--- so many words from a place on are read
+-- n words from a place on are read
 pub reads_taken : (k : Kept) (i n : ℕ) (words : List ℕ) → words ≡ take n (drop i k.words)
     → RunsSteps k (reads_from i words) k
 reads_taken k i n words e =

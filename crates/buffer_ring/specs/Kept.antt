@@ -5,8 +5,8 @@ use Rattle.ca_base.specs.declared.ids.Gate.{Gate}
 use Rattle.ca_base.specs.declared.ids.Gate.TheVariants as gate
 use Rattle.buffer_ring.specs.declared.step.Deed.{Deed}
 use Rattle.buffer_ring.specs.declared.step.Deed.TheVariants as deed
-use Rattle.buffer_ring.specs.declared.step.Step.{Step}
-use Rattle.buffer_ring.specs.declared.step.Step.TheVariants as step
+use Rattle.buffer_ring.specs.declared.step.StoreStep.{StoreStep}
+use Rattle.buffer_ring.specs.declared.step.StoreStep.TheVariants as step
 use Rattle.buffer_ring.specs.declared.step.EndState.{EndState}
 use Rattle.buffer_ring.specs.declared.stores.Put.{Put}
 use Rattle.buffer_ring.specs.declared.stores.Put.TheVariants as put
@@ -37,12 +37,12 @@ kept_after (deed.Puts words) k = record k { words = k.words ++ words }
 kept_after (deed.Closes reason) k = record k { gate = gate.Closed reason; words = [] }
 
 -- a step finds the store's words and gate, and moves it
-abbrev pub RunsStep : Kept → Step → Kept → Type 0
+abbrev pub RunsStep : Kept → StoreStep → Kept → Type 0
 RunsStep k (step.Acts found seen deed) new = (found ≡ length k.words) × (seen ≡ k.gate) × (new ≡ kept_after deed k)
 RunsStep k (step.Reads place word) new = (slice_get k.words place ≡ Some word) × (new ≡ k)
 
 -- and so does each of a list of steps
-abbrev pub RunsSteps : Kept → List Step → Kept → Type 0
+abbrev pub RunsSteps : Kept → List StoreStep → Kept → Type 0
 RunsSteps k [] new = new ≡ k
 RunsSteps k (s ∷ ss) new = (mid : Kept) × RunsStep k s mid × RunsSteps mid ss new
 

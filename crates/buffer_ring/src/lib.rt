@@ -8,5 +8,5 @@ mod stores;
 mod tests;
 
 pub use plain::PlainStore;
-pub use step::{Deed, EndState, Step};
+pub use step::{Deed, EndState, StoreStep};
 pub use stores::{EngineSide, FrameStore, Put, Retired};

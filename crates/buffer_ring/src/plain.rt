@@ -40,7 +40,7 @@ impl PlainStore {
     }
 }
 
-/// Copies the words from place `i` on of a list that stands in two pieces, as many as fill the slice.
+/// Copies the words from place `i` on of a list that is in two pieces, as many as fill the slice.
 fn copy_from(front: &[u64], back: &[u64], i: usize, words: &mut [u64])
     requires { i + length words.old ≤ length front.now + length back.now }
     ensures { words.new ≡ take (length words.old) (drop i (front.now ++ back.now)) }
@@ -109,15 +109,13 @@ impl FrameStore for PlainStore {
     ghost exact = { λ a b ss h. h };
 
     fn new(alloc: Global, cap: u32, dir: Dir) -> Result<PlainStore, NoMemory> {
-        match HeapCircularBuffer::with_capacity(alloc, cap as usize) {
-            Ok(words) => Ok(PlainStore {
-                cap,
-                dir,
-                gate: Gate::Open,
-                words,
-            }),
-            Err(_) => Err(NoMemory),
-        }
+        let words = HeapCircularBuffer::with_capacity(alloc, cap as usize)?;
+        Ok(PlainStore {
+            cap,
+            dir,
+            gate: Gate::Open,
+            words,
+        })
     }
 
     fn look(&mut self) -> Seen {

@@ -1,4 +1,4 @@
-//! Steps of the engine's end of a store, and what that end knows. They stand in clauses alone.
+//! Steps of the engine's end of a store, and what that end knows. Only clauses have them.
 
 use ca_base::{Dir, Gate, Reason};
 use std::collections::LinkedList;
@@ -18,7 +18,7 @@ pub enum Deed {
 
 /// A step of one end.
 #[derive(Drop)]
-pub enum Step {
+pub enum StoreStep {
     /// A deed, with how many words it found, and the gate that it found.
     Acts { found: u32, gate: Gate, deed: Deed },
     /// A read of the word at this place, from 0 for the oldest.

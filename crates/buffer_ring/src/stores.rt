@@ -5,8 +5,8 @@ ghost use Rattle.ca_base.specs.declared.ids.Gate.TheVariants as gate;
 ghost use Rattle.ca_base.specs.declared.limits.TheConstants.{MAX_STORE_WORDS};
 ghost use Rattle.buffer_ring.specs.declared.step.Deed.TheVariants as deed;
 ghost use Rattle.buffer_ring.specs.declared.step.EndState.{EndState as TheState};
-ghost use Rattle.buffer_ring.specs.declared.step.Step.{Step as TheStep};
-ghost use Rattle.buffer_ring.specs.declared.step.Step.TheVariants as step;
+ghost use Rattle.buffer_ring.specs.declared.step.StoreStep.{StoreStep as TheStep};
+ghost use Rattle.buffer_ring.specs.declared.step.StoreStep.TheVariants as step;
 ghost use Rattle.buffer_ring.specs.Steps.{reads_from, state_after};
 ghost use Rattle.buffer_ring.specs.Kept.{Kept, new_store, state_of, RunsSteps, PutsWords, RetiresWords};
 

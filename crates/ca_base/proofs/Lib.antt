@@ -1,1 +1,3 @@
-pub mod Known
+pub mod KnownBytes
+pub mod FoundPlaces
+pub mod Numbered

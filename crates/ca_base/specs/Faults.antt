@@ -6,7 +6,7 @@ pub record Rose (before after : ℕ) : Type 0 where
   pub grows : before ≤ after
   pub moves : before < 2 ^ 64 - 1 → before < after
 
--- a call answers Failed only where the count rose in it, and leaves the count as it is where it answers Ok
+-- a call answers Failed only if the count rose in it, and leaves the count as it is if it answers Ok
 abbrev pub Counts : {A F : Type 0} → Result A F → ℕ → ℕ → Type 0
 Counts (Ok x) before after = after ≡ before
 Counts (Err f) before after = Rose before after

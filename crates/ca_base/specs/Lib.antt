@@ -6,3 +6,4 @@ pub mod Memory
 pub mod Rows
 pub mod WithinCapacity
 pub mod Standard
+pub mod Numbered

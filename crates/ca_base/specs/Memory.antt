@@ -33,11 +33,11 @@ room_of s = s.capacity - length s.written
 abbrev pub raised : ℕ → ℕ
 raised n = min (n + 1) (2 ^ 64 - 1)
 
--- whether the call that follows so many, the first having number 1, is one of those that fail
+-- whether the call after `calls` others, the first having number 1, is one of those that fail
 abbrev pub is_failing : ℕ → List ℕ → Bool
 is_failing calls failing = list_any (λ n. n == raised calls) failing
 
--- a source after a call that gave so many bytes
+-- a source after a call that gave n bytes
 abbrev pub source_gave : ℕ → SourceState → SourceState
 source_gave n s = record { left = drop n s.left; calls = raised s.calls; failing = s.failing; faults = s.faults }
 

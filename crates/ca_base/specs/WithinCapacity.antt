@@ -1,4 +1,4 @@
--- A buffer that holds at most so many bytes, and has taken the memory for them. This project's own.
+-- A buffer that holds at most `capacity` bytes, and has taken the memory for them. This project's own.
 use Rattle.std.specs.Prelude.{ℕ, ◌≤◌, length}
 use Rattle.ca_base.specs.Buffer.{Buffer}
 

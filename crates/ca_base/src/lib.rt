@@ -4,11 +4,11 @@
 
 mod bytes;
 mod codes;
+mod environment;
 mod faults;
 mod ids;
 pub mod limits;
 mod memory;
-mod outside;
 mod standard;
 mod text;
 pub mod values;
@@ -16,12 +16,12 @@ mod words;
 
 pub use bytes::Bytes;
 pub use codes::{Hr, codes_are_tabled};
+pub use environment::{Failed, NoMemory, Sink, Source};
 pub use faults::Faults;
 pub use ids::{
     ClientNo, ConnNo, Dir, EndpointNo, Flow, Gate, Guid, Reason, Seen, SessionNo, StreamKind,
 };
 pub use memory::{MemSink, MemSource};
-pub use outside::{Failed, NoMemory, Sink, Source};
 pub use standard::{StdSink, StdSource, read_once, write_once};
 pub use text::Text;
 pub use words::Words;

@@ -3,6 +3,9 @@
 /// The longest text, in bytes. Names of the field fit, and a text is copied by value.
 pub const MAX_TEXT: usize = 256;
 
+/// The longest format, in bytes: its count in a frame has two bytes.
+pub const MAX_FORMAT: usize = 65_535;
+
 /// The longest name of a connection, in bytes: it becomes a part of a session's identifier, which is a text.
 pub const MAX_CONNECTION_NAME: usize = 64;
 
@@ -27,8 +30,11 @@ pub const LONGEST_BODY: usize = 4_194_304;
 /// The bytes of a frame's length.
 pub const LENGTH_SIZE: usize = 4;
 
-/// How many bytes a read asks for at most (64 KiB): a call of the system costs little beside so many.
+/// How many bytes a read asks for at most (64 KiB): a call of the system costs little beside them.
 pub const READ_SIZE: usize = 65_536;
+
+/// How many bytes of output wait for one write of the system (64 KiB): its call costs little beside them.
+pub const WRITE_SIZE: usize = 65_536;
 
 /// How many bytes of an input are read at most (1 TiB): counts of bytes stay far below 64 bits.
 pub const LONGEST_INPUT: u64 = 1 << 40;

@@ -1,6 +1,7 @@
 //! A source and a sink in memory, for runs whose failing calls are chosen.
 
-ghost use Rattle.std.specs.Prelude.{◌≡◌, ◌<◌, ◌↔◌, ◌==◌, ◌||◌, ◌++◌, length, min, take, drop, Some, IfOk, OnErr, IsErr, IsTrue};
+ghost use Rattle.std.specs.Prelude.{◌≡◌, ◌<◌, ◌↔◌, ◌==◌, ◌||◌, ◌++◌, length, min, take, drop};
+ghost use Rattle.std.specs.Prelude.{Some, IfOk, OnErr, IsErr, IsTrue};
 ghost use Rattle.ca_base.specs.Faults.{Counts};
 ghost use Rattle.ca_base.specs.Memory.{new_source, new_sink, room_of, is_failing};
 ghost use Rattle.ca_base.specs.Memory.{source_gave, source_failed, sink_took, sink_failed};

@@ -4,6 +4,7 @@ ghost use Rattle.std.specs.Prelude.{◌≡◌, ◌<◌, ◌≤◌, [], length, t
 ghost use Rattle.std.specs.Io.KnownBytes.{Appends, Consumes, IsAtEnd, Keeps};
 ghost use Rattle.ca_base.specs.Faults.{Counts};
 
+use crate::limits::WRITE_SIZE;
 use crate::{Failed, Faults, NoMemory, Sink, Source};
 use std::alloc::Global;
 use std::io::{BufWriter, ErrorKind, Read, Write};
@@ -87,7 +88,7 @@ impl<W: Write + Drop> Model for StdSink<W> {
 
 impl<W: Write + Drop> StdSink<W> {
     /// The buffer's size in bytes.
-    pub const CAPACITY: usize = 65536;
+    pub const CAPACITY: usize = WRITE_SIZE;
 
     /// A sink over this writer. The memory of the buffer is taken now.
     pub fn new(alloc: Global, out: W) -> Result<StdSink<W>, NoMemory>
@@ -147,7 +148,7 @@ impl<W: Write + Drop> Sink for StdSink<W> {
 }
 
 /// One read, tried again if a signal interrupts it. `None` if it fails.
-#[tactic(auto, using(crate::proofs::Known::after_tries))]
+#[tactic(auto, using(crate::proofs::KnownBytes::after_tries))]
 pub fn read_once<R: Read>(reader: &mut R, buf: &mut [u8]) -> Option<usize>
     requires { 0 < length buf.old }
     ensures count { IfSome result (λ n. n ≤ length buf.new) }
@@ -166,7 +167,7 @@ pub fn read_once<R: Read>(reader: &mut R, buf: &mut [u8]) -> Option<usize>
 }
 
 /// One write of at least one byte, tried again if a signal interrupts it. `None` if it fails or takes nothing.
-#[tactic(auto, using(crate::proofs::Known::after_tries))]
+#[tactic(auto, using(crate::proofs::KnownBytes::after_tries))]
 pub fn write_once<W: Write>(out: &mut W, piece: &[u8]) -> Option<usize>
     ensures some { IfSome result (λ n. 0 < n) }
     ensures count { IfSome result (λ n. n ≤ length piece.now) }

@@ -5,7 +5,7 @@ ghost use Rattle.std.specs.Prelude.{◌≡◌, ◌≤◌, length};
 use crate::limits::MAX_TEXT;
 use std::marker::Model;
 
-/// A list of at most 256 bytes, which need not be UTF-8.
+/// A list of at most `MAX_TEXT` bytes, which need not be UTF-8.
 #[derive(Clone, Copy)]
 pub struct Text {
     bytes: [u8; MAX_TEXT],

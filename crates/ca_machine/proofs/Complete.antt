@@ -108,7 +108,7 @@ memory_complete st p f =
     complete_by st (with_memory st p.rows (p.grants (found ∷ [])))
     (λ given a n. short st (p.grants (found ∷ [])) (f n) given a)
 
--- a call of a client's stream: where there is none, a row has refused it
+-- a call of a client's stream: if there is none, a row has refused it
 streamed : (st : State) (rows : Option Stream → List (Row Hr)) (outcome : Stream → Outcome) →
     (first (rows None) ≡ None → ⊥) → ((s : Stream) → IsGranted (outcome s).result) → (o : Option Stream) →
     first (rows o) ≡ None → IsGranted (with_stream st o outcome).result
@@ -136,7 +136,7 @@ data_complete st conn client x outcome f =
     (gate_rows (seen_of None).gate ++ call_rows (side_of None) x (seen_of None).words) refl) f
     (stream_at client st.stage))
 
--- a call of a client's endpoint: where there is no client, or no endpoint of it, a row has refused it
+-- a call of a client's endpoint: if there is no client, or no endpoint of it, a row has refused it
 placed : (st : State) (stream : Option Stream) (outcome : Endpoint → Outcome) →
     ((e : Endpoint) → IsGranted (outcome e).result) → (c : Option Client) → is_none c ≡ false →
     is_invalidated st c stream ≡ false → IsGranted (with_endpoint st (endpoint_of st c) outcome).result
@@ -191,7 +191,7 @@ initialize_complete st conn client x =
     (row_fails (control_rows conn st ++ later_rows x) (is_none c, hr.E_HANDLE)
     (opening_rows st conn c (stream_at client st.stage) x) n))
 
--- a call of a session: where there is none, a row has refused it
+-- a call of a session: if there is none, a row has refused it
 told : (st : State) (front : List (Row Hr)) (payload : Session → List ℕ) (o : Option Session) →
     first (front ++ found_rows o) ≡ None → IsGranted (with_session st o (λ s. answered st (payload s))).result
 told st front payload None n = absurd (row_holds front true hr.E_NOTFOUND [] refl n)
@@ -215,7 +215,7 @@ period_complete st (Some e) = by_flow e.flow
     by_flow flow.Render = complete_by st (period_by st e flow.Render) (λ given a n. inl refl)
     by_flow flow.Capture = complete_by st (period_by st e flow.Capture) (λ given a n. inl refl)
 
--- calls and events of an endpoint: where there is none, a row has refused it
+-- calls and events of an endpoint: if there is none, a row has refused it
 get_default_complete : (st : State) (conn flow role : ℕ) → IsComplete st (get_default_plan st conn flow role)
 get_default_complete st conn flow role =
     let wrong : Row Hr = (nat_lt FLOW_CAPTURE flow || nat_lt ROLE_COMMUNICATIONS role, hr.E_INVALIDARG) in

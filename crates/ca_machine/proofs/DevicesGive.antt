@@ -32,7 +32,7 @@ bytes_none [] h = refl
 bytes_none (gave e bytes ∷ given) h = absurd (true≢false h.0)
 bytes_none (_ ∷ given) h = bytes_none given h.1
 
--- nothing is asked; memory is found, or runs out; a device is offered bytes
+-- nothing is asked; memory is there, or runs out; a device is offered bytes
 pub nothing_gives_none : GiveNone []
 nothing_gives_none = tt
 

@@ -3,12 +3,11 @@ use Rattle.std.proofs.Common.{◌≡◌, ℕ, List, [], ◌∷◌, ◌++◌, rep
 use Rattle.std.specs.Str.{is_utf8, chars}
 use lib.Utf8.{encode}
 use Rattle.ca_base.specs.declared.ids.Flow.TheVariants as flow
-use Rattle.ca_base.specs.declared.ids.Gate.TheVariants as gate
 use Rattle.ca_base.specs.declared.ids.StreamKind.TheVariants as kind
 use Rattle.ca_model.specs.declared.event.Event.TheVariants as event
 use Rattle.ca_model.specs.declared.event.Call.TheVariants as call
 use Rattle.ca_model.specs.declared.event.DeviceEvent.TheVariants as device
-use Rattle.ca_stage.specs.Stage.{Stream, no_data}
+use Rattle.ca_stage.specs.Stage.{Stream}
 use Rattle.ca_machine.specs.State.{State}
 use Rattle.ca_machine.specs.Plan.{Answer, found, took, gave, failed}
 use Rattle.ca_machine.specs.Step.{IsRun}
@@ -72,27 +71,14 @@ lost = (0x88890004, [])
 -- ---- a stream that records the microphone
 
 abbrev recorder : Stream
-recorder = record {
-  client = 2;
+recorder = record (player 2 2) {
   endpoint = 2;
   kind = kind.Capture;
-  exclusive = false;
-  event_driven = false;
   channels = 1;
   rate = 8000;
   buffer = 160;
   period = 80;
   capacity = 162;
-  latency = 100000;
-  session = 2;
-  running = false;
-  gate = gate.Open;
-  picked = 0;
-  position = 0;
-  offered = 0;
-  ever = 0;
-  after_gap = false;
-  buffer_data = no_data;
 }
 
 -- client 2 records the microphone, in session 2
@@ -217,7 +203,7 @@ one_is_lost :
     ≡ (0, u32 160 0) ∷ sevens 0 0 ∷ ok ∷ sevens 0 80 ∷ ok ∷ (0, u32 80 0 ++ 0 ∷ []) ∷ sevens 1 240 ∷ []
 one_is_lost = refl
 
--- a stream that was offered so many frames that it can't count another period of them
+-- a stream whose count of offered frames has no room for another period
 abbrev worn : ℕ × List ℕ
 worn = (0xA0040005, [])
 

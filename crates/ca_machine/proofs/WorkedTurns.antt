@@ -109,7 +109,7 @@ hangs_up = (event.Hangup (record { 0 = 1 }), [])
 abbrev pub activates : Turn
 activates = says (call.Activate (record { 0 = 1 }) 0)
 
--- with a duration and a format; memory is found, or runs out
+-- with a duration and a format; memory is there, or runs out
 abbrev pub initializes_with : ℕ → List ℕ → Answer → ℕ → Turn
 initializes_with duration format memory c = (
   event.Call (record { 0 = 1 }) 9
@@ -150,7 +150,7 @@ leaves c = says (call.Release (record { 0 = c }))
 abbrev pub period : List Answer → Turn
 period given = (event.Period (record { 0 = 1 }), given)
 
--- so many frames, all of the same bytes
+-- this many frames, all of the same bytes
 abbrev pub loud : ℕ → List ℕ
 loud n = flat_map (λ frame. frame) (replicate n (1 ∷ 2 ∷ 3 ∷ 4 ∷ []))
 

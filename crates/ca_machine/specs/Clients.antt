@@ -39,6 +39,7 @@ open_rows st conn process name = shut_rows st ++ (
 )
     ∷ []
 
+-- a connection as it is opened
 abbrev pub new_connection : ℕ → ℕ → List ℕ → Connection
 new_connection conn process name = record { conn = record { 0 = conn }; process = process; name = name }
 
@@ -118,6 +119,7 @@ activate_rows st conn endpoint role =
     ∷ (nat_le MAX_COUNT st.clients_made, hr.WORN)
     ∷ []
 
+-- a client as it is activated, with the highest level for each channel
 abbrev pub new_client : ℕ → ℕ → ℕ → ℕ → Client
 new_client client conn endpoint role = record {
   client = record { 0 = client };

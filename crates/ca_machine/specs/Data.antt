@@ -68,6 +68,7 @@ seen_of None = record { words = 0; gate = gate.Open }
 abbrev pub data_rows : DataCall → Option Stream → List (Row Hr)
 data_rows call stream = side_rows (side_of stream) call (seen_of stream)
 
+-- a data call: its rows, and what it does with the client's stream
 abbrev pub data_plan : State → ℕ → ℕ → DataCall → (Stream → Outcome) → Plan
 data_plan st conn client call outcome = plain
     (data_call_rows conn st ++ client_rows conn client st ++ data_rows call (stream_at client st.stage))
@@ -115,7 +116,7 @@ packet_bytes p =
     ++ to_le_bytes w64 p.position
     ++ flat_map frame_bytes p.frames
 
--- the first packet; where there is none a row has refused the call
+-- the first packet; if there is none, a row has refused the call
 abbrev pub first_packet : List Packet → List ℕ
 first_packet [] = []
 first_packet (p ∷ packets) = packet_bytes p
@@ -124,7 +125,7 @@ abbrev pub capture_get_buffer_plan : State → ℕ → ℕ → Plan
 capture_get_buffer_plan st conn client = data_plan st conn client data_call.CaptureGet
     (λ s. granted (first_packet s.buffer_data.packets) (of_client client (leased s.period) ∷ []) st)
 
--- how many packets are read by a release of so many frames: none by one of 0
+-- how many packets are read by a release of this many frames: none by one of 0
 abbrev pub packets_read : ℕ → ℕ
 packets_read frames = if frames == 0 then 0 else 1
 

@@ -83,7 +83,7 @@ add_plan st number flow format name = with_memory st (add_rows st number flow fo
 abbrev pub missing_rows : State → ℕ → List (Row Hr)
 missing_rows st number = shut_rows st ++ (is_none (endpoint_at number st), hr.E_NOTFOUND) ∷ []
 
--- what an event does with the endpoint that it names; where there is none a row has refused it
+-- what an event does with the endpoint that it names; if there is none, a row has refused it
 abbrev pub with_named : State → Option Endpoint → (Endpoint → Outcome) → Outcome
 with_named st None outcome = refused st hr.E_NOTFOUND
 with_named st (Some e) outcome = outcome e
@@ -118,10 +118,11 @@ remove_plan st number = plain (missing_rows st number) (record {
   after = with_endpoints (removed number st.endpoints) (moved (disconnects Removal (Some number) st.stage) st);
 })
 
--- an endpoint's format is another: if it doesn't match the old one, its streams are closed
+-- an endpoint with another format
 abbrev pub with_format : List ℕ → Endpoint → Endpoint
 with_format bytes e = record e { format = spelled bytes }
 
+-- an endpoint's format is another: if it doesn't match the old one, its streams are closed
 abbrev pub with_endpoint_format : State → ℕ → List ℕ → Endpoint → Outcome
 with_endpoint_format st number bytes e =
     granted [] (disconnects_if (not (matches e.format (spelled bytes))) Format (Some number) st.stage)
@@ -132,6 +133,7 @@ set_format_plan st number bytes =
     with_memory st (missing_rows st number ++ (is_faulty bytes, hr.E_INVALIDARG) ∷ [])
     (with_named st (endpoint_at number st) (with_endpoint_format st number bytes))
 
+-- an endpoint with another name
 abbrev pub with_name : List ℕ → Endpoint → Endpoint
 with_name name e = record e { name = name }
 

@@ -35,7 +35,7 @@ enum_endpoints_plan st conn flow mask =
 abbrev pub default_at : ℕ → ℕ → State → Option ℕ
 default_at flow role st = default_of st.endpoints st.choices flow role
 
--- an endpoint's number in a payload; where there is none a row has refused the call
+-- an endpoint's number in a payload; if there is none, a row has refused the call
 abbrev pub number_told : State → Option ℕ → Outcome
 number_told st None = refused st hr.E_NOTFOUND
 number_told st (Some number) = answered st (to_le_bytes w32 number)
@@ -68,7 +68,7 @@ endpoint_payload e =
     ++ (if e.allow then 1 else 0) ∷ (if e.priority then 1 else 0) ∷ format_payload e.format
     ++ text_payload (id_of e.no.0) ++ text_payload e.name
 
--- what a call tells of the endpoint that it names; where there is none a row has refused it
+-- what a call tells of the endpoint that it names; if there is none, a row has refused it
 abbrev pub endpoint_told : State → Option Endpoint → Outcome
 endpoint_told st None = refused st hr.E_NOTFOUND
 endpoint_told st (Some e) = answered st (endpoint_payload e)

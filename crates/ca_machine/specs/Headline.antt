@@ -32,12 +32,13 @@ whole_stage entries = after_moves empty_stage (moves_of entries)
 
 -- ---- what clients release
 
--- the frames that a call hands over for a client's stream of so many channels (IAudioRenderClient::ReleaseBuffer)
+-- the frames that a call hands over for a client's stream of this many channels (IAudioRenderClient::ReleaseBuffer)
 abbrev pub handed : ℕ → ℕ → Call → List Frame
 handed n channels (call.ReleaseBuffer client frames flags bytes) =
     if client.0 == n then frames_released frames flags bytes.list channels else []
 handed n channels _ = []
 
+-- those that an event hands over
 abbrev pub handed_by : ℕ → ℕ → Event → List Frame
 handed_by n channels (event.Call conn tag x) = handed n channels x
 handed_by n channels _ = []
@@ -97,12 +98,13 @@ pub record Sound : Type 0 where
   pub whole : Bool
   pub bytes : List ℕ
 
--- the Sounds of a move, and of a list of moves
+-- the Sounds of a move
 abbrev pub sound_made : Stage → Move → List Sound
 sound_made st (sounded m whole) =
     record { endpoint = m.endpoint; whole = whole; bytes = sound_bytes m st.streams } ∷ []
 sound_made st _ = []
 
+-- and of a list of moves
 abbrev pub sounds_made : Stage → List Move → List Sound
 sounds_made st [] = []
 sounds_made st (x ∷ xs) = sound_made st x ++ sounds_made (after_move st x) xs

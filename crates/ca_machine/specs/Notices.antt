@@ -38,12 +38,15 @@ use Rattle.ca_machine.specs.Endpoints.{default_at}
 
 -- ---- what is compared of the states before and after an event
 
+-- an endpoint, and its state
 abbrev pub noted_endpoint : Endpoint → NotedEndpoint
 noted_endpoint e = record { no = e.no; state = e.state }
 
+-- a session, and its endpoint
 abbrev pub noted_session : Session → NotedSession
 noted_session s = record { no = s.no; endpoint = s.key.endpoint }
 
+-- a stream, its session, whether it runs, and its gate
 abbrev pub noted_stream : Stream → NotedStream
 noted_stream s = record {
   client = record { 0 = s.client };
@@ -56,6 +59,7 @@ noted_stream s = record {
 abbrev pub default_number : State → ℕ → ℕ
 default_number st place = unwrap_or (default_at (place / 3) (place % 3) st) 0
 
+-- all that is compared
 abbrev pub noted : State → Notes
 noted st = record {
   endpoints = map noted_endpoint st.endpoints;
@@ -81,6 +85,7 @@ session_note kind number context value text =
 abbrev pub volume_of : Session → ℕ
 volume_of s = s.level * 2 + (if s.mute then 1 else 0)
 
+-- that of the session of a number, 0 if it isn't there
 abbrev pub volume_at : ℕ → State → ℕ
 volume_at number st = option_map_or volume_of (session_at number st.sessions) 0
 
@@ -104,6 +109,7 @@ setting_notices (call.SetGrouping s grouping context) before after =
     session_note GROUPING s.0 context 0 (guid_text grouping.0) ∷ []
 setting_notices _ before after = []
 
+-- an event that is such a call
 abbrev pub event_notices : Event → State → State → List Notice
 event_notices (event.Call c tag x) before after = setting_notices x before after
 event_notices _ before after = []

@@ -82,10 +82,12 @@ period_payload frames false = to_le_bytes w32 0 ++ 1 ∷ []
 abbrev pub with_failed : ℕ → List Endpoint → List Endpoint
 with_failed number endpoints = changed number (with_state STATE_NOTPRESENT) endpoints
 
+-- the state after a period, by whether the device took or gave all that it was asked
 abbrev pub after_period : ℕ → Bool → State → State
 after_period number true st = st
 after_period number false st = record st { endpoints = with_failed number st.endpoints }
 
+-- a period of an endpoint that plays
 abbrev pub sounding : State → Mixing → List Answer → Outcome
 sounding st m given = record {
   result = hr.S_OK;
@@ -119,6 +121,7 @@ recording_moves e bytes true st =
     else captures e.no.0 (frames_given (period_frames e) e.format.channels bytes) st
 recording_moves e bytes false st = map (λ s. of_client s.client (closed Removal)) (open_streams_on e.no.0 st)
 
+-- a period of an endpoint that captures
 abbrev pub recording : State → Endpoint → List Answer → Outcome
 recording st e given = record {
   result = hr.S_OK;
@@ -131,7 +134,7 @@ recording st e given = record {
 
 -- ---- the table
 
--- a stream that a period of an endpoint offers packets to can't count so many frames more
+-- a stream that a period of an endpoint offers packets to can't count this many frames more
 abbrev pub is_worn : ℕ → ℕ → Stream → Bool
 is_worn number frames s = (is_recording number s || is_hearing number s) && nat_lt MAX_COUNT (s.ever + frames)
 
@@ -159,6 +162,7 @@ period_by st e flow.Capture = record {
   grants = recording st e;
 }
 
+-- a period of an endpoint, if it is there
 abbrev pub period_of : State → Option Endpoint → Plan
 period_of st None = plain (shut_rows st ++ (true, hr.E_NOTFOUND) ∷ []) (refused st hr.E_NOTFOUND)
 period_of st (Some e) = period_by st e e.flow

@@ -13,7 +13,7 @@ pub data Answer : Type 0 where
   -- memory was found, or ran out
   found : Answer
   out_of_memory : Answer
-  -- a device took so many bytes of what it was offered, or that of an endpoint gave these bytes
+  -- a device took this many bytes of what it was offered, or that of an endpoint gave these bytes
   took : ℕ → Answer
   gave : ℕ → List ℕ → Answer
   -- a device failed
@@ -30,19 +30,19 @@ pub data Asked : Type 0 where
   nothing : Asked
   -- memory, and if it was found, what follows
   memory : Asked → Asked
-  -- a device is offered so many bytes, until it took them all or failed
+  -- a device is offered this many bytes, until it took them all or failed
   writing : ℕ → Asked
-  -- the device of an endpoint is asked for so many bytes, until it gave them all, gave none, or failed
+  -- the device of an endpoint is asked for this many bytes, until it gave them all, gave none, or failed
   reading : ℕ → ℕ → Asked
 
--- the answers to an offer of so many bytes: each time some of the rest are taken, or the device fails
+-- the answers to an offer of this many bytes: each time some of the rest are taken, or the device fails
 abbrev pub IsWriting : ℕ → List Answer → Type 0
 IsWriting n [] = n ≡ 0
 IsWriting n (took k ∷ given) = (0 < k) × (k ≤ n) × IsWriting (n - k) given
 IsWriting n (failed ∷ []) = 0 < n
 IsWriting n _ = ⊥
 
--- the answers to a request for so many bytes: each time some of the rest are given; or none, which is the end of what
+-- the answers to a request for this many bytes: each time some of the rest are given; or none, which is the end of what
 -- the device has; or it fails
 abbrev pub IsReading : ℕ → ℕ → List Answer → Type 0
 IsReading e n [] = n ≡ 0
@@ -104,7 +104,7 @@ abbrev pub granted : List ℕ → List Move → State → Outcome
 granted payload moves st =
     record { result = hr.S_OK; payload = payload; moves = moves; output = []; after = moved moves st }
 
--- the table of an event: its rows, what it asks where none holds, and what it gets then for the answers
+-- the table of an event: its rows, what it asks if none holds, and what it gets then for the answers
 pub record Plan : Type 0 where
   pub rows : List (Row Hr)
   pub asks : Asked
@@ -114,11 +114,12 @@ pub record Plan : Type 0 where
 abbrev pub plain : List (Row Hr) → Outcome → Plan
 plain rows outcome = record { rows = rows; asks = nothing; grants = λ given. outcome }
 
--- a call that takes memory, and is refused with E_OUTOFMEMORY if there is none
+-- what a call that takes memory gets: E_OUTOFMEMORY if there is none
 abbrev pub if_found : State → Outcome → List Answer → Outcome
 if_found st outcome (out_of_memory ∷ given) = refused st hr.E_OUTOFMEMORY
 if_found st outcome _ = outcome
 
+-- a call that takes memory
 abbrev pub with_memory : State → List (Row Hr) → Outcome → Plan
 with_memory st rows outcome = record { rows = rows; asks = memory nothing; grants = if_found st outcome }
 
@@ -127,6 +128,7 @@ abbrev pub unless_refused : State → Option Hr → Outcome → Outcome
 unless_refused st (Some code) outcome = refused st code
 unless_refused st None outcome = outcome
 
+-- what a plan gets, for the answers to what it asks
 abbrev pub outcome_of : State → Plan → List Answer → Outcome
 outcome_of st plan given = unless_refused st (first plan.rows) (plan.grants given)
 
@@ -135,5 +137,6 @@ abbrev pub unless_row : Option Hr → Asked → Asked
 unless_row (Some code) asked = nothing
 unless_row None asked = asked
 
+-- what a plan asks
 abbrev pub asked_of : Plan → Asked
 asked_of plan = unless_row (first plan.rows) plan.asks

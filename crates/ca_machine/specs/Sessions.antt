@@ -60,7 +60,7 @@ session_payload state s =
     ++ text_payload (identifier_of s) ++ text_payload (instance_of s)
     ++ text_payload s.display ++ text_payload s.icon
 
--- what a call does with the session that it names; where there is none a row has refused it
+-- what a call does with the session that it names; if there is none, a row has refused it
 abbrev pub with_session : State → Option Session → (Session → Outcome) → Outcome
 with_session st None outcome = refused st hr.E_NOTFOUND
 with_session st (Some s) outcome = outcome s

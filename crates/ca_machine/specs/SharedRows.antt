@@ -49,7 +49,7 @@ gate_of (Some s) = s.gate
 abbrev pub stream_rows : Option Stream → List (Row Hr)
 stream_rows stream = (is_none stream, hr.NOT_INITIALIZED) ∷ gate_rows (gate_of stream)
 
--- what a call does with the client's stream; where there is none a row has refused it
+-- what a call does with the client's stream; if there is none, a row has refused it
 abbrev pub with_stream : State → Option Stream → (Stream → Outcome) → Outcome
 with_stream st None outcome = refused st hr.NOT_INITIALIZED
 with_stream st (Some s) outcome = outcome s
@@ -84,7 +84,7 @@ abbrev pub endpoint_of : State → Option Client → Option Endpoint
 endpoint_of st None = None
 endpoint_of st (Some client) = endpoint_at client.endpoint.0 st
 
--- what a call does with the client's endpoint; where there is none a row has refused it
+-- what a call does with the client's endpoint; if there is none, a row has refused it
 abbrev pub with_endpoint : State → Option Endpoint → (Endpoint → Outcome) → Outcome
 with_endpoint st None outcome = refused st hr.DEVICE_INVALIDATED
 with_endpoint st (Some e) outcome = outcome e

@@ -16,8 +16,8 @@ use Rattle.ca_machine.specs.declared.state.Client.{Client}
 use Rattle.ca_stage.specs.Stage.{Stage, empty_stage}
 use Rattle.ca_stage.specs.Tally.{Tally, no_tally}
 
--- the stage has the playheads of all endpoints that there ever were, and the streams of live clients; the tally counts
--- the frames of all streams that there ever were
+-- the stage has the playheads of the endpoints that are there, and the streams of live clients; the tally counts the
+-- frames of all streams that there ever were
 pub record State : Type 0 where
   pub stage : Stage
   pub tally : Tally
@@ -53,20 +53,23 @@ empty_state = record {
   sessions_made = 0;
 }
 
--- the connection of a number, if it is open
+-- a connection has this number
 abbrev pub is_connection : ℕ → Connection → Bool
 is_connection number c = c.conn.0 == number
 
+-- the connection of a number, if it is open
 abbrev pub connection_at : ℕ → State → Option Connection
 connection_at number st = find (is_connection number) st.connections
 
+-- a connection of this number is open
 abbrev pub is_connected : ℕ → State → Bool
 is_connected number st = list_any (is_connection number) st.connections
 
--- the live client of a connection that has this number
+-- a client is of this connection, and has this number
 abbrev pub is_client_of : ℕ → ℕ → Client → Bool
 is_client_of conn number c = c.client.0 == number && c.conn.0 == conn
 
+-- the live client of a connection that has this number
 abbrev pub client_of : ℕ → ℕ → State → Option Client
 client_of conn number st = find (is_client_of conn number) st.clients
 
@@ -82,6 +85,7 @@ endpoint_numbers endpoints = map (λ e. e.no.0) endpoints
 abbrev pub notices_of : ℕ → State → Notices
 notices_of conn st = unwrap_or (slice_get st.notices (conn - 1)) no_notices
 
+-- a connection registered for others, and keeps other notices
 abbrev pub with_notices_of : ℕ → Notices → State → State
 with_notices_of conn q st = record st { notices = slice_set st.notices (conn - 1) q }
 
@@ -89,6 +93,7 @@ with_notices_of conn q st = record st { notices = slice_set st.notices (conn - 1
 abbrev pub session_list : State → SessionList
 session_list st = record { list = st.sessions; made = st.sessions_made }
 
+-- the sessions are others, and so is the count of those made
 abbrev pub with_sessions : SessionList → State → State
 with_sessions sessions st = record st { sessions = sessions.list; sessions_made = sessions.made }
 

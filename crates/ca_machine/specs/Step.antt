@@ -128,6 +128,7 @@ device_plan st (device.SetDefault flow role e) = set_default_plan st flow role e
 device_plan st (device.SetName e name) = set_name_plan st e.0 name
 device_plan st (device.Other code rest) = unlisted_device_plan st
 
+-- the table of an event
 abbrev pub plan : State → Event → Plan
 plan st (event.Open c process name) = open_plan st c.0 process name
 plan st (event.Hangup c) = hangup_plan st c.0
@@ -191,17 +192,15 @@ abbrev pub IsRun : State → List Entry → State → Type 0
 IsRun st [] new = new ≡ st
 IsRun st (entry ∷ entries) new = (mid : State) × Steps st entry mid × IsRun mid entries new
 
--- the environment's answers of a run, what devices took in it, and the moves of the stage
+-- the environment's answers of a run
 abbrev pub answers_of : List Entry → List Answer
 answers_of entries = flat_map (λ entry. entry.answers) entries
 
-abbrev pub output_of : List Entry → List (ℕ × List ℕ)
-output_of entries = flat_map (λ entry. entry.output) entries
-
+-- the moves of the stage in it
 abbrev pub moves_of : List Entry → List Move
 moves_of entries = flat_map (λ entry. entry.moves) entries
 
--- a reply's kind, connection and tag are the event's, or 0
+-- the kind of an event, which is its reply's
 abbrev pub event_kind : Event → ℕ
 event_kind (event.Open c process name) = KIND_OPEN
 event_kind (event.Hangup c) = KIND_HANGUP
@@ -210,6 +209,7 @@ event_kind (event.Period e) = KIND_PERIOD
 event_kind (event.Device x) = KIND_DEVICE
 event_kind event.Shutdown = KIND_SHUTDOWN
 
+-- its connection, 0 if it has none
 abbrev pub event_connection : Event → ℕ
 event_connection (event.Open c process name) = c.0
 event_connection (event.Hangup c) = c.0
@@ -218,6 +218,7 @@ event_connection (event.Period e) = 0
 event_connection (event.Device x) = 0
 event_connection event.Shutdown = 0
 
+-- its tag, 0 if it has none
 abbrev pub event_tag : Event → ℕ
 event_tag (event.Call c tag x) = tag
 event_tag _ = 0

@@ -20,7 +20,14 @@ use Rattle.ca_base.specs.declared.limits.TheConstants.{
   MIN_EXCLUSIVE_PERIOD,
   SHARED_PERIOD,
 }
-use Rattle.ca_base.specs.declared.values.TheConstants.{FLOW_CAPTURE, SHARE_EXCLUSIVE}
+use Rattle.ca_base.specs.declared.values.TheConstants.{
+  FLOW_CAPTURE,
+  SHARE_EXCLUSIVE,
+  STREAM_CROSSPROCESS,
+  STREAM_EVENTCALLBACK,
+  STREAM_LOOPBACK,
+  STREAM_NOPERSIST,
+}
 use Rattle.ca_base.specs.Rows.{Row, first}
 use Rattle.wave_format.specs.declared.format.Format.{Format}
 use Rattle.wave_format.specs.Format.{fault_rows, spelled, spelling, frames_of_time}
@@ -59,10 +66,11 @@ use Rattle.ca_machine.specs.SharedRows.{
 abbrev pub fault_of : List ℕ → Option ℕ
 fault_of bytes = first (fault_rows bytes)
 
--- the bytes are no format at all; they are one that the service doesn't take
+-- the bytes are no format at all
 abbrev pub is_malformed : List ℕ → Bool
 is_malformed bytes = option_map_or (λ fault. nat_le fault 2) (fault_of bytes) false
 
+-- they are none, or one that the service doesn't take
 abbrev pub is_faulty : List ℕ → Bool
 is_faulty bytes = is_some (fault_of bytes)
 
@@ -70,6 +78,7 @@ is_faulty bytes = is_some (fault_of bytes)
 abbrev pub matches : Format → Format → Bool
 matches a b = a.channels == b.channels && a.rate == b.rate
 
+-- an endpoint's format doesn't match, or there is no endpoint
 abbrev pub has_no_match : Option Endpoint → List ℕ → Bool
 has_no_match None bytes = true
 has_no_match (Some e) bytes = not (matches e.format (spelled bytes))
@@ -80,24 +89,26 @@ format_payload format = to_le_bytes w16 (length (spelling format)) ++ spelling f
 
 -- ---- Initialize
 
--- AUDCLNT_STREAMFLAGS: CROSSPROCESS, LOOPBACK, EVENTCALLBACK and NOPERSIST are bits 16 to 19. A session is shared by
--- processes; a stream records what its endpoint plays; the level of a session that it makes isn't kept.
+-- the session is shared by processes (AUDCLNT_STREAMFLAGS: CROSSPROCESS, LOOPBACK, EVENTCALLBACK and NOPERSIST are the
+-- bits 16 to 19)
 abbrev pub is_cross_process : ℕ → Bool
-is_cross_process flags = not (flags / 65536 % 2 == 0)
+is_cross_process flags = not (flags / STREAM_CROSSPROCESS % 2 == 0)
 
+-- the stream records what its endpoint plays
 abbrev pub has_loopback : ℕ → Bool
-has_loopback flags = not (flags / 131072 % 2 == 0)
+has_loopback flags = not (flags / STREAM_LOOPBACK % 2 == 0)
 
+-- the level of a session that is made is kept: NOPERSIST isn't set
 abbrev pub is_kept : ℕ → Bool
-is_kept flags = flags / 524288 % 2 == 0
+is_kept flags = flags / STREAM_NOPERSIST % 2 == 0
 
 -- EVENTCALLBACK comes with a later part of the service
 abbrev pub has_later_flag : ℕ → Bool
-has_later_flag flags = not (flags / 262144 % 2 == 0)
+has_later_flag flags = not (flags / STREAM_EVENTCALLBACK % 2 == 0)
 
--- flags other than those four
+-- flags other than those four: below the lowest of them, or above the highest
 abbrev pub has_other_flag : ℕ → Bool
-has_other_flag flags = not (flags % 65536 == 0) || not (flags / 1048576 == 0)
+has_other_flag flags = not (flags % STREAM_CROSSPROCESS == 0) || not (flags / (2 * STREAM_NOPERSIST) == 0)
 
 -- a time that REFERENCE_TIME doesn't have
 abbrev pub is_too_long : ℕ → Bool
@@ -154,10 +165,11 @@ new_stream flow client x session = record {
   buffer_data = no_data;
 }
 
--- the process and the name of a connection
+-- the process of a connection, 0 if it isn't open
 abbrev pub process_of : ℕ → State → ℕ
 process_of conn st = option_map_or (λ c. c.process) (connection_at conn st) 0
 
+-- its name, empty if it isn't open
 abbrev pub name_of : ℕ → State → List ℕ
 name_of conn st = option_map_or (λ c. c.name) (connection_at conn st) []
 
@@ -226,6 +238,7 @@ joined_by st client x key =
     (with_sessions (joined key None (is_kept x.flags) (endpoint_channels st client) (session_list st)) st)
     client x (number_joined key (session_list st))
 
+-- what an Initialize does for the client that it names; if there is none, a row has refused it
 abbrev pub initialized : State → ℕ → Option Client → Opening → Outcome
 initialized st conn None x = refused st hr.E_HANDLE
 initialized st conn (Some client) x = joined_by st client x (session_key st conn client x)
@@ -286,6 +299,7 @@ is_format_supported_plan st conn client share bytes = plain
 abbrev pub is_service : ℕ → Bool
 is_service service = nat_le 1 service && nat_le service 7
 
+-- the service renders and the stream doesn't, or it captures and the stream renders
 abbrev pub is_of_other_kind : ℕ → Stream → Bool
 is_of_other_kind service s = service == 1 && not (is_render s.kind) || service == 2 && is_render s.kind
 

@@ -42,9 +42,9 @@ pub record AnswersBy (st : State) (plan : Plan) (result : Hr) (payload : List �
   where
     pub given : List Answer
     pub answers : AreAnswers (asked_of plan) given
-    pub result-is : result ≡ (outcome_of st plan given).result
-    pub payload-is : payload ≡ (outcome_of st plan given).payload
-    pub after-is : after ≡ (outcome_of st plan given).after
+    pub result_is : result ≡ (outcome_of st plan given).result
+    pub payload_is : payload ≡ (outcome_of st plan given).payload
+    pub after_is : after ≡ (outcome_of st plan given).after
     pub passes : Passes old (outcome_of st plan given).output given new
 
 -- the devices, and the state of the one-thread machine
@@ -68,7 +68,7 @@ ToldAlong told (entry ∷ entries) told' =
 pub record AnswersEvent {D : Type 0} (faults : D → ℕ) (told : D → Option (List DeviceLog)) (old : MachineView D)
     (event : Event) (reply : Reply) (new : MachineView D) : Type 0 where
   pub entry : Entry
-  pub event-is : entry.event ≡ event
+  pub event_is : entry.event ≡ event
   pub steps : Steps old.state entry new.state
   pub replies : Replies entry reply
   pub passes : Passes (outside faults told old.devices) entry.output entry.answers (outside faults told new.devices)

@@ -3,7 +3,7 @@ use Rattle.std.specs.Prelude.{ℕ, ◌^◌, ◌<◌, ◌≤◌, List, [], ◌∷
 use Rattle.std.specs.Int.{w16, w32, w64, w128, to_le_bytes, to_be_bytes}
 use Rattle.ca_base.specs.declared.limits.TheConstants.{CONNECTIONS, MAX_TEXT}
 
--- what may stand in a field
+-- what a field may hold
 pub data Kind : Type 0 where
   -- a connection's number, one byte
   connection : Kind
@@ -20,7 +20,7 @@ pub data Kind : Type 0 where
   -- the rest of the event
   rest : Kind
 
--- what stands in a field
+-- what a field holds
 pub data Field : Type 0 where
   number : ℕ → Field
   bytes : List ℕ → Field

@@ -244,12 +244,12 @@ pub data IsIncomplete (bs : List ℕ) : Type 0 where
   no_length : length bs < 4 → IsIncomplete bs
   no_body : 0 < stated_length bs → stated_length bs ≤ LONGEST_BODY → length bs < 4 + stated_length bs → IsIncomplete bs
 
--- an event's spelling stands at the front
+-- an event's spelling is at the front
 pub record Begins (e : Event) (bs : List ℕ) : Type 0 where
   pub spelled : IsEvent e
   pub front : take (length (frame e)) bs ≡ frame e
 
--- no event's spelling stands at the front
+-- no event's spelling is at the front
 abbrev pub NoEvent : List ℕ → Type 0
 NoEvent bs = (e : Event) → Begins e bs → ⊥
 
@@ -258,7 +258,7 @@ pub record IsMalformed (bs : List ℕ) : Type 0 where
   pub whole : IsIncomplete bs → ⊥
   pub none : NoEvent bs
 
--- the cut of an input: the longest list of events whose spellings stand at the front, and the rest
+-- the cut of an input: the longest list of events whose spellings are at the front, and the rest
 pub record Cut (input : List ℕ) (events : List Event) (tail : List ℕ) : Type 0 where
   pub whole : input ≡ frames events ++ tail
   pub each : AllByRecursion IsEvent events

@@ -59,7 +59,7 @@ pub enum Call {
     Unregister {
         registration: u64,
     },
-    /// 9: the oldest notices, at most so many (own).
+    /// 9: the oldest notices, at most `max` (own).
     TakeNotices {
         max: u32,
     },
@@ -135,7 +135,7 @@ pub enum Call {
         channel: u32,
         level: u32,
     },
-    /// 32: IAudioRenderClient::GetBuffer, of so many frames.
+    /// 32: IAudioRenderClient::GetBuffer, of `frames` frames.
     GetBuffer {
         client: ClientNo,
         frames: u32,

@@ -105,7 +105,7 @@ pub ends_all : (mark : Mark) (offers : List Offer) → is_pending_mark mark ≡ 
 ends_all mark [] h = refl
 ends_all mark (o ∷ offers) h = end_one o.packet o.mark mark offers h (ends_all mark offers h)
 
--- there is room in the stream where there is in the book
+-- there is room in the stream if there is in the book
 same_room : (s : Stream) (b : PacketBook) → IsBooked s b → has_room s ≡ takes_more s b
 same_room s b h = ap (λ k. nat_lt k (packet_room s)) (ap length h.waits ∙ length-marked is_pending b.offers)
 
@@ -171,7 +171,7 @@ booked_moved (closed reason) s b h = record {
 booked_moved _ s b h =
     record { waits = h.waits; offered = h.offered; after_gap = h.after_gap; ever = h.ever }
 
--- where there is no stream the book is empty
+-- if there is no stream, the book is empty
 abbrev pub BookedIn : Option Stream → PacketBook → Type 0
 BookedIn None b = b ≡ empty_book
 BookedIn (Some s) b = IsBooked s b

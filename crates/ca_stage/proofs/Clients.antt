@@ -1,4 +1,4 @@
--- Each client has one stream: the streams stand in the rising order of their clients.
+-- Each client has one stream: the streams are in the rising order of their clients.
 use Rattle.std.proofs.Common.{zero, take, drop, lt-ltb, le-ltb, ◌++◌, ◌≡◌, ℕ, suc, ◌<◌, ◌≤◌, ◌==◌, ◌||◌, nat_lt, List}
 use Rattle.std.proofs.Common.{[], ◌∷◌, ◌++◌, map, Bool, true, false}
 use Rattle.std.proofs.Common.{cond, Some, None, refl, sym, ap, ap₂, ◌∙◌, subst, find, arith, if◌then◌else◌, eqb, eq-eqb}
@@ -76,7 +76,7 @@ pub rises_after : (st : Stage) (xs : List Move) → RisesFrom 0 (clients st) →
 rises_after st [] r = r
 rises_after st (x ∷ xs) r = rises_after (after_move st x) xs (rises_step st x r)
 
--- numbers that rise stand there once
+-- numbers that rise are there once
 pub lower_without : (n low : ℕ) (ns : List ℕ) → n < low → RisesFrom low ns → IsWithout n ns
 lower_without n low [] h r = refl
 lower_without n low (m ∷ ns) h r =

@@ -19,7 +19,7 @@ use Rattle.ca_stage.proofs.Lists.{all_found}
 use Rattle.ca_stage.proofs.Streams.{is_of, found_client}
 use Rattle.ca_stage.proofs.Conservation.{conservation}
 use Rattle.ca_stage.proofs.Clients.{rising_distinct, found_none, without_before}
-use Rattle.ca_stage.proofs.Holds.{stage_step, stage_after, empty_is_stage}
+use Rattle.ca_stage.proofs.StageHolds.{stage_step, stage_after, empty_is_stage}
 
 pub count-cons : (kind : Fate → Bool) (f : Fate) (fs : List Fate) →
     count_by kind (f ∷ fs) ≡ cond (kind f) 1 0 + count_by kind fs

@@ -14,7 +14,7 @@ use Rattle.ca_stage.specs.Laws.{CaptureIsOneMap}
 use Rattle.ca_stage.proofs.Lists.{all_of, chosen, find_map, map_alike, map_map, map_same}
 use Rattle.ca_stage.proofs.Streams.{is_of}
 use Rattle.ca_stage.proofs.Clients.{rising_distinct}
-use Rattle.ca_stage.proofs.Holds.{stage_holds}
+use Rattle.ca_stage.proofs.StageHolds.{stage_holds}
 use Rattle.ca_stage.proofs.Stages.{map_filter_same, woven_captures}
 use Rattle.ca_stage.proofs.MapMoves.{moves_of, kept_moved, playheads_left}
 

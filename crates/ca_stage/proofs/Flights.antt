@@ -85,7 +85,7 @@ flies_on number place n st x due due' xs step k =
     given : List Fate
     given = of_found (fated_by st x) (stream_at n st)
 
--- where nothing is picked nothing flies
+-- if nothing is picked, nothing flies
 pub flies_none : (m : Mixing) (number place : ℕ) (o : Option Playhead) (s : Stream) → Rests s →
     flying_from m number place o s ≡ []
 flies_none m number place o s z =

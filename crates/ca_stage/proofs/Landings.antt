@@ -26,7 +26,7 @@ use Rattle.ca_stage.proofs.Phases.{IsPicked, MayBePicked, idle}
 use Rattle.ca_stage.proofs.SubSteps.{in_air, air_sounded, air_closing, air_picking, air_of_due, plays_there, SubStep}
 use Rattle.ca_stage.proofs.SubSteps.{picks_one, sounds_whole, sounds_failed, retires_one, feeds_one, closes_one}
 use Rattle.ca_stage.proofs.SubSteps.{finishes_whole, finishes_failed}
-use Rattle.ca_stage.proofs.Walk.{Carries, walk}
+use Rattle.ca_stage.proofs.WovenMoves.{Carries, walk}
 use Rattle.ca_stage.proofs.Places.{having_elsewhere, having_before, having_at, having_behind}
 use Rattle.ca_stage.proofs.Flights.{covers_in, flying_from, flying, summed, air, IsFlown, StepFlies, flies_step}
 use Rattle.ca_stage.proofs.Flights.{flies_none, is_retire_move, renders_none, unrendered, quiet}
@@ -277,7 +277,7 @@ outside_renders_none (sounded m true) n = absurd (true≢false n)
 outside_renders_none (sounded m false) n = refl
 outside_renders_none _ n = refl
 
--- where a period begins nothing flies
+-- when a period begins, nothing flies
 pub begins_grounded : (st : Stage) (steps : List Move) → IsPeriod st steps → in_air steps ≡ None
 begins_grounded st steps p =
     ap in_air p.steps_are ∙ air_picking p.mixing p.whole (playing_streams_on p.mixing.endpoint st)

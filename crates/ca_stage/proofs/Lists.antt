@@ -4,13 +4,14 @@ use Rattle.std.proofs.Common.{Some, None, refl, sym, ap, ap₂, ◌∙◌, subst
 use Rattle.std.proofs.lemmas.Bool.{or_parts, or_right}
 use Rattle.std.proofs.lemmas.Option.{same_Some, none-some}
 use Rattle.std.specs.List.{AllByRecursion, list_any}
+pub use Rattle.ca_base.proofs.FoundPlaces.{found_passes}
 
 -- what both sides of a choice have, the choice has
 pub chosen : {A : Type 0} (P : A → Type 0) (b : Bool) (x y : A) → P x → P y → P (if b then x else y)
 chosen P true x y p q = p
 chosen P false x y p q = q
 
--- and where the test is known to hold for the first side
+-- and if the test is known to hold for the first side
 pub chosen_by : {A : Type 0} (P : A → Type 0) (b : Bool) (x y : A) → (b ≡ true → P x) → (b ≡ false → P y) →
     P (if b then x else y)
 chosen_by P true x y p q = p refl
@@ -61,18 +62,7 @@ all_found P test [] s h e = absurd (none-some s e)
 all_found P test (x ∷ xs) s h e =
     some_head P (test x) x s (find test xs) h.0 (λ k. all_found P test xs s h.1 k) e
 
-test_head : {A : Type 0} (test : A → Bool) (x s : A) (b : Bool) (o : Option A) → test x ≡ b →
-    (o ≡ Some s → test s ≡ true) → cond b (Some x) o ≡ Some s → test s ≡ true
-test_head test x s true o t h e = ap test (sym (same_Some x s e)) ∙ t
-test_head test x s false o t h e = h e
-
--- the one that is found passes
-pub found_passes : {A : Type 0} (test : A → Bool) (xs : List A) (s : A) → find test xs ≡ Some s → test s ≡ true
-found_passes test [] s e = absurd (none-some s e)
-found_passes test (x ∷ xs) s e =
-    test_head test x s (test x) (find test xs) refl (λ k. found_passes test xs s k) e
-
--- none is found where none passes
+-- none is found if none passes
 pub finds_none : {A : Type 0} (test : A → Bool) (xs : List A) → list_any test xs ≡ false → find test xs ≡ None
 finds_none test [] h = refl
 finds_none test (x ∷ xs) h =

@@ -182,7 +182,7 @@ pub playheads_left : (m : StreamMove) (left : List Stream) (st : Stage) →
 playheads_left m left st =
     ap (λ xs. (after_moves st xs).playheads) (moves_of_are m left) ∙ playheads_moved m (clients_of left) st
 
--- what a test keeps of streams that are moved where another test passes, if both never pass
+-- what a test keeps of streams that are moved if another test passes, if both never pass
 kept_still : (keep test : Stream → Bool) (m : StreamMove) (streams : List Stream) →
     ((s : Stream) → keep s ≡ true → test s ≡ false) →
     AllByRecursion (λ s. moved_where test m s ≡ s) (filter keep streams)

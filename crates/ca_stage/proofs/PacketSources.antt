@@ -168,7 +168,7 @@ sound_from before st m false e r =
     (moves_of (closed Removal) (open_streams_on m.endpoint st)) (finished m false ∷ [])
     (closes_from _ st (open_streams_on m.endpoint st)) (tt, tt)
 
--- and after any move of a period, and outside one
+-- and after any move, within a period or between two
 due_from : (before : List Move) (st : Stage) (x : Move) (due : List Move) → after_moves empty_stage before ≡ st →
     RisesFrom 0 (clients st) → AllByRecursion (FeedsFrom before st) due →
     AllByRecursion (FeedsFrom (before ++ x ∷ []) (after_move st x)) (due_after st x due)

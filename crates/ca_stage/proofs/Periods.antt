@@ -17,7 +17,7 @@ use Rattle.ca_stage.proofs.Lists.{chosen, chosen_by, all_of, map_alike, map_map,
 use Rattle.ca_stage.proofs.Clients.{rising_distinct, rises_after}
 use Rattle.ca_stage.proofs.MapMoves.{moves_of, kept_moved, playheads_left}
 use Rattle.ca_stage.proofs.SubSteps.{plays_on, plays_open}
-use Rattle.ca_stage.proofs.Holds.{stage_holds}
+use Rattle.ca_stage.proofs.StageHolds.{stage_holds}
 use Rattle.ca_stage.proofs.Stages.{after_moves-append, woven_period}
 use Rattle.ca_stage.proofs.Feeds.{hears_open, feeds_at}
 

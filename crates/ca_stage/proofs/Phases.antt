@@ -113,7 +113,7 @@ passing_in test (x ∷ streams) = (
       (λ s k h. passes_more s x (filter test streams) (test x) (k h)) streams (passing_in test streams),
 )
 
--- and only streams that pass are, where each client has one stream
+-- and only streams that pass are, if each client has one stream
 absent_passes : (test : Stream → Bool) (x : Stream) (streams : List Stream) → has_stream x.client streams ≡ false →
     has_stream x.client (cond (test x) (x ∷ filter test streams) (filter test streams)) ≡ true → test x ≡ true
 absent_passes test x streams n h = go (test x) h

@@ -36,7 +36,7 @@ number_there zero (x ∷ heads) e h =
     or_left (x.number == e.number) _ (eq-eqb x.number e.number (ap (λ (p : Playhead). p.number) (same_Some x e h)))
 number_there (suc at) (x ∷ heads) e h = or_right (x.number == e.number) _ (number_there at heads e h)
 
--- another number than one that stands later
+-- another number than one that comes later
 other_number : (n : ℕ) (ns : List ℕ) (k : ℕ) → IsWithout n ns → is_among k ns ≡ true → (n == k) ≡ false
 other_number n ns k w a = go (n == k) refl
   where

@@ -44,7 +44,7 @@ playhead_there number st x e h =
     there_with_added number x (playhead_after x e) (map (playhead_after x) st.playheads)
     (found_after number st x ∙ ap (option_map (playhead_after x)) h)
 
--- the next place of an endpoint: one that is added begins with 0, as where there is none
+-- the next place of an endpoint: one that is added begins with 0, as if there is none
 place_added : (number n : ℕ) (b : Bool) (o : Option Playhead) → is_number number (record { number = n; next = 0 }) ≡ b →
     place_of (first_of_two o (find (is_number number) (record { number = n; next = 0 } ∷ []))) ≡ place_of o
 place_added number n b (Some e) t = refl

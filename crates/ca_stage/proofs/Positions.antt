@@ -11,10 +11,10 @@ use Rattle.ca_stage.specs.Order.{IsHeld, IsStage}
 use Rattle.ca_stage.specs.Laws.{Positions}
 use Rattle.ca_stage.proofs.Lists.{all_found, chosen}
 use Rattle.ca_stage.proofs.Streams.{is_of, moved_there, came, Comes, absent, present}
-use Rattle.ca_stage.proofs.Holds.{stage_step, empty_is_stage}
+use Rattle.ca_stage.proofs.StageHolds.{stage_step, empty_is_stage}
 use Rattle.ca_stage.proofs.Counting.{more_by, same_by, count-append, count-rendered_from, count-map, retired_frames}
 
--- the position of a stream, 0 where there is none
+-- the position of a stream, 0 if there is none
 abbrev position_in : Option Stream → ℕ
 position_in None = 0
 position_in (Some s) = s.position
@@ -80,7 +80,7 @@ step_resets n st (of_client client reset) r = reset_here n client st (stream_at 
 step_resets n st (of_client client m) r = absurd (false≢true r)
 step_resets n st _ r = absurd (false≢true r)
 
--- where no Reset comes all fates are since the last one
+-- if no Reset comes, all fates are since the last one
 since_none : (n : ℕ) (st : Stage) (xs : List Move) → has_reset n st xs ≡ false → fates_since n st xs ≡ fates n st xs
 since_none n st [] h = refl
 since_none n st (x ∷ xs) h =

@@ -21,7 +21,7 @@ use Rattle.ca_stage.proofs.Lists.{chosen, chosen_by, all-map, all-filter, all_bo
 use Rattle.ca_stage.proofs.Lists.{all_found}
 use Rattle.ca_stage.proofs.Streams.{after_client, stays, all-inserted, not_open_of, is_of, found_client}
 use Rattle.ca_stage.proofs.Clients.{clients_of, clients_moved, lt_true, rises_step}
-use Rattle.ca_stage.proofs.Holds.{stage_after, stage_holds}
+use Rattle.ca_stage.proofs.StageHolds.{stage_after, stage_holds}
 use Rattle.ca_stage.proofs.Silence.{nothing_due}
 use Rattle.ca_stage.proofs.Stages.{after_moves-append}
 

@@ -1,4 +1,4 @@
--- The packets that were read are those that are marked so, in order: none that was read stands behind one that waits.
+-- The packets that were read are those that are marked so, in order: none that was read comes after one that waits.
 use Rattle.std.proofs.Common.{◌≡◌, ℕ, zero, suc, List, [], ◌∷◌, ◌++◌, filter, take, Bool, true, false, cond}
 use Rattle.std.proofs.Common.{Option, Some, None, refl, sym, ap, ◌∙◌, append-nil, append_assoc, if◌then◌else◌}
 use Rattle.std.proofs.lemmas.Bool.{false≢true}
@@ -15,7 +15,7 @@ use Rattle.ca_stage.specs.Laws.{IsBooked, ReadInOrder}
 use Rattle.ca_stage.proofs.Lists.{all-append, chosen}
 use Rattle.ca_stage.proofs.Books.{packets_of, marked-append, BookedIn, book_by_none, booked_step}
 
--- no packet that was read stands behind one that waits
+-- no packet that was read comes after one that waits
 abbrev IsUnread : Offer → Type 0
 IsUnread o = is_read o ≡ false
 

@@ -13,7 +13,7 @@ use Rattle.ca_stage.specs.Laws.{IsOfOther, SumsNone, IsSilent, Silence}
 use Rattle.ca_stage.proofs.Lists.{all-append, all_weaker, all-filter}
 use Rattle.ca_stage.proofs.Streams.{moved_there, not_open_of, stays, is_of}
 use Rattle.ca_stage.proofs.Clients.{rising_distinct, rises_step, each_found}
-use Rattle.ca_stage.proofs.Holds.{stage_holds, found_still}
+use Rattle.ca_stage.proofs.StageHolds.{stage_holds, found_still}
 
 -- nothing passes a closed gate
 nothing_passes : {A : Type 0} (client : ℕ) (s : Stream) (xs : List A) → is_open s ≡ false → passing client s xs ≡ []

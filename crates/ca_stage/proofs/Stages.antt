@@ -15,10 +15,10 @@ use Rattle.ca_stage.specs.Woven.{IsPeriod, is_data, is_sub_step, due_after, due_
 use Rattle.ca_stage.specs.Order.{IsStage, Rests, frames_ahead}
 use Rattle.ca_stage.specs.Laws.{RestsBetween, PicksFit}
 use Rattle.ca_stage.proofs.Lists.{all_weaker}
-use Rattle.ca_stage.proofs.Holds.{stage_step, empty_is_stage}
+use Rattle.ca_stage.proofs.StageHolds.{stage_step, empty_is_stage}
 use Rattle.ca_stage.proofs.Phases.{MayBePicked, MayBeLeft, Phase, idle, picking, retiring, feeding, recording, closing}
 use Rattle.ca_stage.proofs.Phases.{picks_left, feeds_left, hears_left, retires_left, closes_left}
-use Rattle.ca_stage.proofs.Walk.{Moment, steps, phase_rests}
+use Rattle.ca_stage.proofs.WovenMoves.{Moment, steps, phase_rests}
 
 pub after_moves-append : (st : Stage) (xs ys : List Move) →
     after_moves st (xs ++ ys) ≡ after_moves (after_moves st xs) ys
@@ -63,7 +63,7 @@ woven_one st x h d = go (is_sub_step x) h
     go true e = absurd (true≢false e)
     go false e = subst (λ due. IsWoven (after_move st x) due []) (sym d) tt
 
--- what is left of a period is woven where it is due
+-- what is left of a period is woven if it is due
 woven_feeds : (st : Stage) (frames : List Frame) (left : List Stream) →
     IsWoven st (feeds_left frames left) (feeds_left frames left)
 woven_feeds st frames [] = tt
@@ -152,7 +152,7 @@ moment st due (x ∷ before) rest p h w =
 start : Phase empty_stage []
 start = idle (record { due_is = refl; rests = tt })
 
--- where nothing is left to come, nothing is due
+-- if nothing is left to come, nothing is due
 moment_rests : (st : Stage) → Moment st [] → AllByRecursion Rests st.streams
 moment_rests st k = go k.due k.phase k.woven
   where

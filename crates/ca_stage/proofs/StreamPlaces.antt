@@ -30,7 +30,7 @@ others_stay n m low (s ∷ streams) h r =
     (ap (λ b. if b then moved m s else s) (and_left (s.client == n) (is_open s) (lt_ne n s.client (omega arith))))
     (others_stay n m (suc s.client) streams (omega arith) r.1)
 
--- a stream that stands in a place is at least the lowest number
+-- the stream in a place has at least the lowest number
 at_least : (low at : ℕ) (streams : List Stream) (s : Stream) → RisesFrom low (clients_of streams) →
     slice_get streams at ≡ Some s → low ≤ s.client
 at_least low at [] s r e = absurd (none-some s e)
@@ -132,7 +132,7 @@ pub same_each : {A : Type 0} (f : A → A) (xs : List A) → AllByRecursion (λ 
 same_each f [] h = refl
 same_each f (x ∷ xs) h = ap₂ (λ y ys. y ∷ ys) h.0 (same_each f xs h.1)
 
--- where a client has no stream its moves leave all as it is
+-- if a client has no stream, its moves leave all as it is
 pub absent_stays : (n : ℕ) (m : StreamMove) (st : Stage) → IsWithout n (clients st) →
     after_move st (of_client n m) ≡ st
 absent_stays n m st w =
@@ -148,7 +148,7 @@ tally_of_absent n m st t w = ap (λ o. tally_of_found n m o t) (found_none n st.
 
 -- ---- a new stream
 
--- streams that stand in order: from a place on all are above a number if the one there is
+-- streams in order: from a place on all are above a number if the one there is
 all_above : (n low : ℕ) (streams : List Stream) → n < low → RisesFrom low (clients_of streams) →
     AllByRecursion (λ s. n < s.client) streams
 all_above n low [] h r = tt

@@ -109,7 +109,7 @@ there_with_opened n (opened new) s streams e =
     (λ h. e) (λ h. opened_other n new s streams h e (is_of n new) refl)
 there_with_opened n _ s streams e = e
 
--- where the stream of a client is there, it is moved
+-- if the stream of a client is there, it is moved
 pub moved_there : (n : ℕ) (st : Stage) (x : Move) (s : Stream) →
     stream_at n st ≡ Some s → stream_at n (after_move st x) ≡ Some (stream_after x s)
 moved_there n st x s e =
@@ -117,7 +117,7 @@ moved_there n st x s e =
     (find_map (is_of n) (stream_after x) (λ s. ap (λ c. c == n) (after_client x s)) st.streams
     ∙ ap (option_map (stream_after x)) e)
 
--- where there is none, none comes, or a new one
+-- if there is none, none comes, or a new one
 pub data Comes (o : Option Stream) : Type 0 where
   absent : o ≡ None → Comes o
   present : (new : Stream) → o ≡ Some (as_opened new) → Comes o

@@ -115,7 +115,7 @@ stage_4 = after_moves stage_3 between
 abbrev stage_5 : Stage
 stage_5 = after_moves stage_4 third_period
 
--- the streams stand in the order of their clients, and the endpoint has one playhead
+-- the streams are in the order of their clients, and the endpoint has one playhead
 clients_are : clients stage_1 ≡ 1 ∷ 2 ∷ 3 ∷ []
 clients_are = refl
 

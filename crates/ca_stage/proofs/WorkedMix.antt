@@ -1,34 +1,17 @@
 -- Worked mixes: one period of one frame and one or two channels, by gains and clamps.
-use Rattle.std.proofs.Common.{◌≡◌, ℕ, ℤ, [], ◌∷◌, true, false, None, refl, pos, negsuc}
-use Rattle.ca_base.specs.declared.ids.Gate.TheVariants as gate
+use Rattle.std.proofs.Common.{◌≡◌, ℕ, ℤ, [], ◌∷◌, None, refl, pos, negsuc}
 use Rattle.ca_base.specs.declared.ids.StreamKind.TheVariants as kind
 use Rattle.volume_stack.specs.Scaling.{unit_gain}
 use Rattle.ca_stage.specs.Stage.{Frame, Stream}
 use Rattle.ca_stage.specs.Moves.{Mixing}
 use Rattle.ca_stage.specs.Mix.{mixed, sound_bytes}
+use Rattle.ca_stage.proofs.Worked.{stream_of}
 
 -- a stream of an endpoint with a frame that is due, and one that isn't
 abbrev voice : ℕ → ℕ → Frame → Stream
-voice n endpoint frame = record {
-  client = n;
+voice n endpoint frame = record (stream_of kind.Render n) {
   endpoint = endpoint;
-  kind = kind.Render;
-  exclusive = false;
-  event_driven = false;
-  channels = 1;
-  rate = 48000;
-  buffer = 960;
-  period = 480;
-  capacity = 960;
-  latency = 100000;
-  session = 1;
-  running = true;
-  gate = gate.Open;
   picked = 1;
-  position = 0;
-  offered = 0;
-  ever = 0;
-  after_gap = false;
   buffer_data = record { pending = frame ∷ (pos 9 ∷ pos 9 ∷ []) ∷ []; packets = []; released = 2; lease = None };
 }
 

@@ -263,7 +263,7 @@ pub record WasGiven (number : ℕ) (xs : List Move) (frames : List Frame) : Type
   pub rest : List Move
   pub stands : xs ≡ before ++ captured number frames ∷ rest
 
--- where a packet's frames are from: a stream that hears an endpoint gets what one Sound of it wrote, one that records
+-- what a packet's frames are from: a stream that hears an endpoint gets what one Sound of it wrote, one that records
 -- it what its device gave, and one that plays gets none
 abbrev pub IsFrom : StreamKind → ℕ → List Move → List Frame → Type 0
 IsFrom kind.Loopback number xs frames = WasWritten number xs frames

@@ -17,7 +17,7 @@ pub record Mixing : Type 0 where
 
 -- a move of one stream
 pub data StreamMove : Type 0 where
-  -- by a data call: frames are leased; frames are released, or so many packets are read, and the lease ends
+  -- by a data call: frames are leased; frames are released, or this many packets are read, and the lease ends
   leased : ℕ → StreamMove
   released : List Frame → StreamMove
   read : ℕ → StreamMove

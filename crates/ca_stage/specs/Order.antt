@@ -44,7 +44,7 @@ IsSettled s = is_open s ≡ false → IsStill s
 abbrev pub IsHeld : Stream → Type 0
 IsHeld s = s.picked ≤ padding s
 
--- what holds of a stage at any moment: the streams stand in the order of their clients, who have one each; each
+-- what holds of a stage at any moment: the streams are in the order of their clients, who have one each; each
 -- endpoint has one playhead; a closed stream is still; what is picked is there
 pub record IsStage (st : Stage) : Type 0 where
   pub rising : RisesFrom 0 (clients st)

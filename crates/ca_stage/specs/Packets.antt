@@ -54,7 +54,7 @@ is_read o = is_read_mark o.mark
 abbrev pub packets_marked : (Offer → Bool) → List Offer → List Packet
 packets_marked test offers = map (λ o. o.packet) (filter test offers)
 
--- the first packets that wait, so many, are read
+-- the first packets that wait, this many of them, are read
 abbrev pub reads_first : ℕ → List Offer → List Offer
 reads_first zero offers = offers
 reads_first (suc n) [] = []

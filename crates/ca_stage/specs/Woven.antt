@@ -8,7 +8,7 @@ use Rattle.ca_stage.specs.Moves.{finished, captured}
 use Rattle.ca_stage.specs.Moves.{Mixing, after_move, playhead_at}
 use Rattle.ca_stage.specs.Periods.{picks, after_sound, feeds, is_recording}
 
--- data calls make these, which may stand between the sub-steps of a period
+-- data calls make these, which may come between the sub-steps of a period
 abbrev pub is_data_move : StreamMove → Bool
 is_data_move (leased n) = true
 is_data_move (released frames) = true
@@ -19,7 +19,7 @@ abbrev pub is_data : Move → Bool
 is_data (of_client client m) = is_data_move m
 is_data _ = false
 
--- these stand in a period alone
+-- these come in a period alone
 abbrev pub is_period_move : StreamMove → Bool
 is_period_move (picked n) = true
 is_period_move retired = true
@@ -45,7 +45,7 @@ abbrev pub due_after : Stage → Move → List Move → List Move
 due_after st (sounded m whole) due = after_sound m whole st
 due_after st _ due = due
 
--- what is due once a move is made that is no sub-step: where a device gave frames, they are offered to those that
+-- what is due once a move is made that is no sub-step: if a device gave frames, they are offered to those that
 -- record it
 abbrev pub due_of : Stage → Move → List Move
 due_of st (captured number frames) = feeds (is_recording number) frames st

@@ -24,7 +24,7 @@ pub fn positions()
 {}
 
 /// A closed stream has no padding.
-#[tactic(auto, using(crate::proofs::Holds::closed_is_empty))]
+#[tactic(auto, using(crate::proofs::StageHolds::closed_is_empty))]
 pub fn closed_is_empty()
     ensures { ClosedIsEmpty }
 {}
@@ -41,13 +41,13 @@ pub fn tallies()
     ensures { Tallies }
 {}
 
-/// Each client has one stream at most, and nothing is released where there is none.
+/// Each client has one stream at most, and nothing is released if there is none.
 #[tactic(auto, using(crate::proofs::Clients::each_client_once))]
 pub fn each_client_once()
     ensures { EachClientOnce }
 {}
 
-/// Streams stand in the order of their clients, each endpoint has one playhead, a closed stream is still, and what is
+/// Streams are in the order of their clients, each endpoint has one playhead, a closed stream is still, and what is
 /// picked is there.
 pub fn stage_holds()
     ensures { StageHolds }
@@ -66,7 +66,7 @@ pub fn picks_fit()
 {}
 
 /// The padding of a stream is frames of its channels, samples of 16 bits, if such frames alone are released.
-#[tactic(auto, using(crate::proofs::Holds::frames_fit))]
+#[tactic(auto, using(crate::proofs::StageHolds::frames_fit))]
 pub fn frames_fit()
     ensures { FramesFit }
 {}
@@ -79,14 +79,14 @@ pub fn mix_sums()
 
 /// Each place that an endpoint has played was mixed by one whole period, which summed the frames that are rendered
 /// there.
-#[tactic(auto, using(crate::proofs::Once::each_place_once))]
+#[tactic(auto, using(crate::proofs::EachPlaceOnce::each_place_once))]
 pub fn each_place_once()
     ensures { EachPlaceOnce }
 {}
 
 /// The same, with the period itself: none before it and none after it mixed the place, and what it wrote there is the
 /// mix of the frames that are rendered there.
-#[tactic(auto, using(crate::proofs::Once::one_sound))]
+#[tactic(auto, using(crate::proofs::EachPlaceOnce::one_sound))]
 pub fn one_sound()
     ensures { OneSound }
 {}
@@ -108,7 +108,7 @@ pub fn capture_is_one_map()
 {}
 
 /// The places of a stream's rendered frames rise.
-#[tactic(auto, using(crate::proofs::Rise::places_rise))]
+#[tactic(auto, using(crate::proofs::PlacesRise::places_rise))]
 pub fn places_rise()
     ensures { PlacesRise }
 {}

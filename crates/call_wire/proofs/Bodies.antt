@@ -108,7 +108,7 @@ kinds_told (event.Period e) = refl
 kinds_told (event.Device x) = refl
 kinds_told event.Shutdown = refl
 
--- the fields that are read, where the kinds are known but for the first
+-- the fields that are read, if the kinds are known but for the first
 read_as : (told : Option (List Kind)) (ks : List Kind) (bs : List ℕ) → told >>= (λ ks. Some (byte ∷ ks)) ≡ Some ks
     → (told >>= λ ks. read_fields (byte ∷ ks) bs) ≡ read_fields ks bs
 read_as (Some told) ks bs e = ap (λ (ks : List Kind). read_fields ks bs) (some_is (byte ∷ told) ks e)

@@ -4,8 +4,7 @@ use Rattle.std.proofs.Common.{◌++◌, length, take, drop, Option, Some, None, 
 use Rattle.std.specs.Int.{w16, from_le_bytes, to_le_bytes}
 use Rattle.std.proofs.lemmas.Bool.{ltb-false, le-ltb, ne_eqb}
 use Rattle.std.proofs.lemmas.List.{take_at, drop_at, take-append-drop, length-append, length-take, append-nil}
-use Rattle.ca_base.specs.declared.limits.TheConstants.{CONNECTIONS, MAX_TEXT}
-use Rattle.call_wire.specs.declared.fields.TheConstants.{MAX_FORMAT}
+use Rattle.ca_base.specs.declared.limits.TheConstants.{CONNECTIONS, MAX_FORMAT, MAX_TEXT}
 use Rattle.ca_model.specs.Fields.{Kind, Field, Fits, field_bytes}
 use Rattle.ca_model.specs.Fields.Kind.{connection, byte, four_bytes, eight_bytes, guid, text, format, rest}
 use Rattle.ca_model.specs.Fields.Field.{number, bytes}

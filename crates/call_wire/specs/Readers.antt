@@ -18,7 +18,7 @@ abbrev pub Gives : {A B : Type 0} → (A → B) → Result A NoField → Option 
 Gives view (Ok x) read = read ≡ Some (view x)
 Gives view (Err f) read = read ≡ None
 
--- why a reader fails: memory ran out, where reading gives fields of which some take memory; or reading gives nothing
+-- why a reader fails: memory ran out, if reading gives fields of which some take memory; or reading gives nothing
 abbrev pub Fails : Fault → Option (List Field) → Bool → Type 0
 Fails fault.OutOfMemory read takes = (is_some read ≡ true) × (takes ≡ true)
 Fails fault.Malformed read takes = read ≡ None

@@ -6,8 +6,7 @@ use Rattle.std.specs.Prelude.{◌||◌, if◌then◌else◌, slice_index}
 use Rattle.std.specs.List.{list_any}
 use Rattle.std.specs.Int.{w16, w32, w64, w128, from_le_bytes, from_be_bytes}
 use Rattle.std.specs.Option.{option_map_or}
-use Rattle.ca_base.specs.declared.limits.TheConstants.{CONNECTIONS, MAX_TEXT}
-use Rattle.call_wire.specs.declared.fields.TheConstants.{MAX_FORMAT}
+use Rattle.ca_base.specs.declared.limits.TheConstants.{CONNECTIONS, MAX_FORMAT, MAX_TEXT}
 use Rattle.ca_base.specs.declared.values.TheConstants.{KIND_OPEN, KIND_HANGUP, KIND_CALL, KIND_PERIOD, KIND_DEVICE}
 use Rattle.ca_base.specs.declared.values.TheConstants.{KIND_SHUTDOWN}
 use Rattle.ca_model.specs.Fields.{Kind, Field}

@@ -115,6 +115,7 @@ fn u32_call(code: u8, number: u32) -> Call
 }
 
 /// A call that has one number of eight bytes alone, a client's, a session's or a registration's, by its code.
+#[inline(always)]
 fn read_number_call(code: u8, input: &[u8]) -> Result<Call, NoField>
     requires { listed code calls ≡ Some (eight_bytes ∷ []) }
     ensures { GivesCall code result input.now }

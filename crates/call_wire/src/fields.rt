@@ -6,11 +6,8 @@ ghost use Rattle.call_wire.specs.Reading.{number_at, byte_at, bytes_at, connecti
 ghost use Rattle.call_wire.specs.Readers.{Gives};
 
 use crate::fault::NoField;
-use ca_base::limits::{CONNECTIONS, MAX_TEXT};
+use ca_base::limits::{CONNECTIONS, MAX_FORMAT, MAX_TEXT};
 use ca_base::{ConnNo, Guid};
-
-/// The longest format, in bytes: its count has two bytes.
-pub const MAX_FORMAT: usize = 65_535;
 
 /// `N` bytes.
 #[tactic(auto, unfolding(crate::specs::Reading::bytes_at))]

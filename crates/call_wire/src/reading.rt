@@ -22,8 +22,9 @@ pub enum Step {
 
 ghost use Rattle.call_wire.specs.Next.{IsNext, IsOutOfMemory};
 
-/// Reads the event at the front of the bytes, and looks at no byte behind its frame. Memory is taken for an event's
-/// format and for the rest of its bytes alone: `NoMemory` comes only for a whole event that has one of these.
+/// Reads the event at the front of the bytes. What follows its frame changes nothing (`begun_stays`,
+/// `malformed_stays`). Memory is taken for an event's format and for the rest of its bytes alone: `NoMemory` comes only
+/// for a whole event that has one of these.
 pub fn next_event(alloc: Global, bytes: &[u8]) -> Result<Step, NoMemory>
     ensures { MatchResult result (λ step. IsNext step bytes.now) (λ _. IsOutOfMemory bytes.now) }
 {

@@ -245,7 +245,7 @@ fn bodies_of_no_event_are_malformed(rt: HostRuntime) -> Result<(), Fail> {
     Ok(())
 }
 
-/// Whether a head with a text of so many bytes behind it is malformed.
+/// Whether a head with a text of `length` bytes behind it is malformed.
 fn text_is_malformed(rt: HostRuntime, head: &[u8], length: u16) -> Result<bool, Fail> {
     let mut body = Vec::new(rt.alloc());
     body.extend_from_slice(head)?;

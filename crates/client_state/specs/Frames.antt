@@ -2,6 +2,6 @@
 use Rattle.std.specs.Prelude.{ℕ, ℤ, List, map}
 use Rattle.wave_format.specs.Frame.{frame_of}
 
--- the frames in words of a render store, of so many channels: one in each word
+-- the frames in words of a render store, of this many channels: one in each word
 abbrev pub frames_in : ℕ → List ℕ → List (List ℤ)
 frames_in channels words = map (frame_of channels) words

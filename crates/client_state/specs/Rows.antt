@@ -36,13 +36,13 @@ abbrev pub is_render : Dir → Bool
 is_render dir.Render = true
 is_render dir.Capture = false
 
--- the frames of so many words of a store: a render store has a word for each frame, a capture store packets of a header
--- word and a period of frames
+-- the frames of this many words of a store: a render store has a word for each frame, a capture store packets of a
+-- header word and a period of frames
 abbrev pub padding_of : ClientSide → ℕ → ℕ
 padding_of side words =
     if is_render side.dir then words else words / (side.period + 1) * side.period
 
--- a lease is below so many frames
+-- a lease is of fewer frames than these
 abbrev pub is_lease_below : ℕ → Option ℕ → Bool
 is_lease_below frames lease = option_map_or (λ n. nat_lt n frames) lease false
 

@@ -37,7 +37,7 @@ impl ClientSide {
         }
     }
 
-    /// The frames of so many words of the store, without the header words of packets.
+    /// The frames of `words` words of the store, without the header words of packets.
     pub fn padding(&self, words: u32) -> u32
         ensures { result ≡ padding_of self.now words }
     {

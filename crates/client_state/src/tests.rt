@@ -30,7 +30,7 @@ const LEASED: ClientSide = ClientSide {
     ..PLAYER
 };
 
-/// A player of so many frames that only three more are counted.
+/// A player whose count of released frames has room for three more.
 const WORN: ClientSide = ClientSide {
     lease: Some(4),
     released: (1 << 62) - 3,

@@ -66,8 +66,9 @@ opens_new {F} e old new kept (Some i) none is last =
 -- the open files with one of them in its new state, by the place at which it was before
 abbrev MovedAs : {F : Type 0} → (F → Option (List ℕ)) → Moves → List (KeptFile F) → List (KeptFile F) → KeptFile F
     → Option ℕ → Type 0
-MovedAs bytes moves old new kept at = MatchOption at
-    (open_files bytes new ≡ open_files bytes old ++ open_file bytes kept ∷ [])
+MovedAs {F} bytes moves old new kept at = MatchOption at
+    ((open_files bytes new ≡ open_files bytes old ++ open_file bytes kept ∷ [])
+    × (opened : F) × moves (bytes opened) (bytes kept.file))
     (λ j. (open_files bytes new ≡ set (open_files bytes old) j (open_file bytes kept))
     × moves (get_or (open_files bytes old) j (open_file bytes kept)).bytes (bytes kept.file))
 
@@ -79,10 +80,11 @@ moved_as {F} bytes moves e i old mid new d None none (kept, is, last) h it =
     let there = subst (λ (files : List (KeptFile F)). Some i ≡ position (is_kept_for e) files) last h in
     let found = found_new e old kept none is in
     let i_is : i ≡ length old = cc in
-    ap (λ (files : List (KeptFile F)). open_files bytes (set files i new)) last
+    let files_are = ap (λ (files : List (KeptFile F)). open_files bytes (set files i new)) last
     ∙ ap (λ (k : ℕ). open_files bytes (set (old ++ kept ∷ []) k new)) i_is
     ∙ ap (open_files bytes) (set-append_seam old kept [] new)
-    ∙ map-append (open_file bytes) old (new ∷ [])
+    ∙ map-append (open_file bytes) old (new ∷ []) in
+    (files_are, (get_or mid i d).file, it)
 moved_as {F} bytes moves e i old mid new d (Some j) found same h it =
     let there = subst (λ (files : List (KeptFile F)). Some i ≡ position (is_kept_for e) files) same h in
     let i_is : i ≡ j = cc in
@@ -118,17 +120,17 @@ moved : {F : Type 0} (bytes : F → Option (List ℕ)) (is_meant : Files) (moves
     → open_files bytes old ≡ before → OpensFor e old mid → Some i ≡ position (is_kept_for e) mid
     → was ≡ get_or mid i was → is_meant e (open_file bytes (record was { file = file }))
     → moves (bytes was.file) (bytes file)
-    → MovesAt is_meant moves e before (open_files bytes (set mid i (record was { file = file })))
+    → MovesAt bytes is_meant moves e before (open_files bytes (set mid i (record was { file = file })))
 moved {F} bytes is_meant moves e i old mid was file before seen opens h at is it =
     let now : KeptFile F = record was { file = file } in
     let it' = subst (λ (kept : KeptFile F). moves (bytes kept.file) (bytes now.file)) at it in
-    let ends : MovesAt is_meant moves e (open_files bytes old) (open_files bytes (set mid i now)) = record {
+    let ends : MovesAt bytes is_meant moves e (open_files bytes old) (open_files bytes (set mid i now)) = record {
       file = open_file bytes now;
       is = is;
       files = rw place-open_files
           (moved_as bytes moves e i old mid now was (position (is_kept_for e) old) refl opens h it');
     } in
-    subst (λ (files : List OpenFile). MovesAt is_meant moves e files (open_files bytes (set mid i now))) seen ends
+    subst (λ (files : List OpenFile). MovesAt bytes is_meant moves e files (open_files bytes (set mid i now))) seen ends
 
 -- a read that gave bytes, and none only at the end, gave the front of what was left
 pub gives_front : (old new : Option (List ℕ)) (buf : List ℕ) (r : Option ℕ)
@@ -144,8 +146,9 @@ pub call_ends : {F : Type 0} (bytes : F → Option (List ℕ)) (folder : List �
     → Some i ≡ position (is_kept_for e) mid → was ≡ get_or mid i was
     → IfSome r (λ n. moves n (bytes was.file) (bytes file)) → IfNone r (Keeps (bytes was.file) (bytes file))
     → MatchOption r
-    (StaysAt (IsFileOf folder how) e before (open_files bytes (set mid i (record was { file = file }))))
-    (λ n. MovesAt (IsFileOf folder how) (moves n) e before (open_files bytes (set mid i (record was { file = file }))))
+    (StaysAt bytes (IsFileOf folder how) e before (open_files bytes (set mid i (record was { file = file }))))
+    (λ n. MovesAt bytes (IsFileOf folder how) (moves n) e before
+    (open_files bytes (set mid i (record was { file = file }))))
 call_ends bytes folder how moves e i old mid was file before None seen opened opens h at some none =
     let is = is_file_of bytes folder how e i mid was file opened h at in
     inr (moved bytes (IsFileOf folder how) Keeps e i old mid was file before seen opens h at is none)

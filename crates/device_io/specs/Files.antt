@@ -72,14 +72,15 @@ abbrev pub ReadIn : List ℕ → Files
 ReadIn folder = IsFileOf folder to_read
 
 -- the open files after a call that moved the bytes of an endpoint's file: the first one of that endpoint, or, if it had
--- none, a new one at the end
-pub record MovesAt (is_meant : Files) (moves : Moves) (e : ℕ) (old new : List OpenFile) : Type 0 where
+-- none, a new one at the end, whose bytes moved from those that it had when it was opened
+pub record MovesAt {F : Type 0} (bytes : F → Option (List ℕ)) (is_meant : Files) (moves : Moves) (e : ℕ)
+    (old new : List OpenFile) : Type 0 where
   pub file : OpenFile
   pub is : is_meant e file
   pub files : MatchOption (position (is_open_for e) old)
-      (new ≡ old ++ file ∷ [])
+      ((new ≡ old ++ file ∷ []) × (opened : F) × moves (bytes opened) file.bytes)
       (λ i. (new ≡ slice_set old i file) × moves (slice_index_or old i file).bytes file.bytes)
 
 -- the open files after a call that failed: an endpoint's file may have been opened in it
-abbrev pub StaysAt : Files → ℕ → List OpenFile → List OpenFile → Type 0
-StaysAt is_meant e old new = (new ≡ old) ⊎ MovesAt is_meant Keeps e old new
+abbrev pub StaysAt : {F : Type 0} → (F → Option (List ℕ)) → Files → ℕ → List OpenFile → List OpenFile → Type 0
+StaysAt bytes is_meant e old new = (new ≡ old) ⊎ MovesAt bytes is_meant Keeps e old new

@@ -80,8 +80,8 @@ impl<R: Files + Drop> FileDevices<R> {
         ensures some { IfSome result (λ n. 0 < n) }
         ensures count { IfSome result (λ n. n ≤ length piece.now) }
         ensures ends { MatchOption result
-            (StaysAt (AppendedIn self.old.folder) e.0 self.old.appended self.new.appended)
-            (λ n. MovesAt (AppendedIn self.old.folder) (AppendsPiece (take n piece.now)) e.0
+            (StaysAt R.File.contents (AppendedIn self.old.folder) e.0 self.old.appended self.new.appended)
+            (λ n. MovesAt R.File.contents (AppendedIn self.old.folder) (AppendsPiece (take n piece.now)) e.0
             self.old.appended self.new.appended) }
         ensures others { self.new ≡ record self.old { appended = self.new.appended } }
     {
@@ -94,8 +94,9 @@ impl<R: Files + Drop> FileDevices<R> {
         requires { 0 < length buf.old }
         ensures count { IfSome result (λ n. n ≤ length buf.new) }
         ensures ends { MatchOption result
-            (StaysAt (ReadIn self.old.folder) e.0 self.old.read self.new.read)
-            (λ n. MovesAt (ReadIn self.old.folder) (GivesFront n buf.new) e.0 self.old.read self.new.read) }
+            (StaysAt R.File.remaining (ReadIn self.old.folder) e.0 self.old.read self.new.read)
+            (λ n. MovesAt R.File.remaining (ReadIn self.old.folder) (GivesFront n buf.new) e.0
+            self.old.read self.new.read) }
         ensures others { self.new ≡ record self.old { read = self.new.read } }
     {
         let place = place_opened(&self.folder, read_options(), &mut self.read, e)?;
@@ -115,9 +116,10 @@ impl<R: Files + Drop> Devices for FileDevices<R> {
         ensures count { IfOk result (λ n. n ≤ length piece.now) }
         ensures cause { Counts result self.old.faults self.new.faults }
         ensures takes { IfOk result (λ n.
-            MovesAt (AppendedIn self.old.folder) (AppendsPiece (take n piece.now)) e.0
+            MovesAt R.File.contents (AppendedIn self.old.folder) (AppendsPiece (take n piece.now)) e.0
             self.old.appended self.new.appended) }
-        ensures err { OnErr result (StaysAt (AppendedIn self.old.folder) e.0 self.old.appended self.new.appended) }
+        ensures err { OnErr result
+            (StaysAt R.File.contents (AppendedIn self.old.folder) e.0 self.old.appended self.new.appended) }
         ensures others { self.new ≡
             record self.old { appended = self.new.appended; faults = self.new.faults } }
     {
@@ -133,8 +135,9 @@ impl<R: Files + Drop> Devices for FileDevices<R> {
         ensures count { IfOk result (λ n. n ≤ length buf.new) }
         ensures cause { Counts result self.old.faults self.new.faults }
         ensures gives { IfOk result (λ n.
-            MovesAt (ReadIn self.old.folder) (GivesFront n buf.new) e.0 self.old.read self.new.read) }
-        ensures err { OnErr result (StaysAt (ReadIn self.old.folder) e.0 self.old.read self.new.read) }
+            MovesAt R.File.remaining (ReadIn self.old.folder) (GivesFront n buf.new) e.0
+            self.old.read self.new.read) }
+        ensures err { OnErr result (StaysAt R.File.remaining (ReadIn self.old.folder) e.0 self.old.read self.new.read) }
         ensures others { self.new ≡ record self.old { read = self.new.read; faults = self.new.faults } }
     {
         match self.read_on(e, buf) {

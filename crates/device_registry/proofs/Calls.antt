@@ -4,13 +4,13 @@ use Rattle.std.proofs.Common.{is_none, not, set, if◌then◌else◌}
 use Rattle.std.specs.List.{slice_get}
 use Rattle.ca_base.specs.declared.codes.TheConstants.Hr as hr
 use Rattle.ca_base.specs.Rows.{first}
+use Rattle.ca_base.proofs.Numbered.{changed_there}
 use Rattle.device_registry.specs.declared.endpoint.Endpoint.{Endpoint}
 use Rattle.device_registry.specs.Changes.{Sets, with_changed}
-use Rattle.device_registry.specs.Endpoints.{EndpointList, endpoint_at, is_state}
+use Rattle.device_registry.specs.Endpoints.{EndpointList, endpoint_at, is_state, number_of}
 use Rattle.device_registry.specs.Registry.{IsList}
 use Rattle.device_registry.specs.Rows.{found_rows, state_rows}
 use Rattle.device_registry.proofs.Finding.{found_number}
-use Rattle.device_registry.proofs.Lists.{changed_there}
 
 -- a call of an endpoint that isn't there
 pub not_found : (after book : EndpointList) (o : Option Endpoint) → is_none o ≡ true →
@@ -51,5 +51,5 @@ pub changed_at : (number at : ℕ) (f : Endpoint → Endpoint) (book : EndpointL
     record { list = set book.list at (f e); last = book.last } ≡ with_changed number f book
 changed_at number at f book e h there here =
     ap (λ (list : List Endpoint). record { list = list; last = book.last })
-    (changed_there f 0 book.last at book.list e h.rise here)
+    (changed_there number_of f 0 book.last at book.list e h.rise here)
     ∙ ap (λ n. with_changed n f book) (found_number number book.list e there)

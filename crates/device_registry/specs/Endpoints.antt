@@ -1,11 +1,11 @@
 -- The list of endpoints (IMMDeviceEnumerator, IMMDevice, DEVICE_STATE_XXX; numbers and order are this project's own).
-use Rattle.std.specs.Prelude.{ℕ, ◌/◌, ◌%◌, ◌==◌, ◌&&◌, ◌||◌, not, List, [], ◌∷◌, ◌++◌, map, filter, Bool}
-use Rattle.std.specs.Prelude.{Option, if◌then◌else◌}
+use Rattle.std.specs.Prelude.{ℕ, ◌/◌, ◌%◌, ◌==◌, ◌&&◌, ◌||◌, not, List, [], ◌∷◌, ◌++◌, filter, Bool, Option}
 use Rattle.std.specs.List.{find}
 use Rattle.ca_base.specs.declared.ids.Flow.{Flow}
 use Rattle.ca_base.specs.declared.ids.Flow.TheVariants.{Render, Capture}
 use Rattle.ca_base.specs.declared.values.TheConstants.{FLOW_ALL, FLOW_CAPTURE, FLOW_RENDER}
 use Rattle.ca_base.specs.declared.values.TheConstants.{STATE_ACTIVE, STATE_DISABLED, STATE_NOTPRESENT, STATE_UNPLUGGED}
+use Rattle.ca_base.specs.Numbered.{changed_numbered}
 use Rattle.device_registry.specs.declared.endpoint.Endpoint.{Endpoint}
 
 -- the endpoints that are there, in the order of their numbers, and the greatest number that was ever added
@@ -16,6 +16,10 @@ pub record EndpointList : Type 0 where
 -- none was ever added
 abbrev pub no_endpoints : EndpointList
 no_endpoints = record { list = []; last = 0 }
+
+-- the number of an endpoint
+abbrev pub number_of : Endpoint → ℕ
+number_of e = e.no.0
 
 -- the endpoint of a number, if it is there (IMMDeviceEnumerator::GetDevice)
 abbrev pub is_endpoint : ℕ → Endpoint → Bool
@@ -36,7 +40,7 @@ removed number list = filter (λ e. not (is_endpoint number e)) list
 
 -- the endpoints after a change of the one of this number, if it is there
 abbrev pub changed : ℕ → (Endpoint → Endpoint) → List Endpoint → List Endpoint
-changed number f list = map (λ e. if is_endpoint number e then f e else e) list
+changed number f list = changed_numbered number_of number f list
 
 -- its state is another (IMMNotificationClient::OnDeviceStateChanged)
 abbrev pub with_state : ℕ → Endpoint → Endpoint

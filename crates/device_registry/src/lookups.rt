@@ -1,4 +1,4 @@
-//! Where an endpoint stands in the list.
+//! The place of an endpoint in the list.
 
 ghost use Rattle.std.specs.Prelude.{◌≡◌};
 ghost use Rattle.std.specs.List.{position};

@@ -10,7 +10,7 @@ use ca_base::{EndpointNo, Flow, Hr, Text};
 use std::test::Fail;
 use wave_format::Format;
 
-/// An endpoint of two channels, where exclusive use is allowed and takes no precedence.
+/// An endpoint of two channels: exclusive use is allowed and takes no precedence.
 fn endpoint(no: u32, flow: Flow, state: u32) -> Endpoint
     requires { is_state state ≡ true }
     ensures state { is_state result.state ≡ true }

@@ -32,16 +32,16 @@ use Rattle.std.proofs.lemmas.List.{
 use lib.Seq.{drop-append-le}
 
 -- its bytes are those before its end without those before its start
-window-is : (items : List ℕ) (start end : ℕ) → start ≤ end
+window_is : (items : List ℕ) (start end : ℕ) → start ≤ end
     → drop start (take end items) ≡ take (end - start) (drop start items)
-window-is items start end le =
+window_is items start end le =
     let sum : start + (end - start) ≡ end = omega arith in
     ap (λ (n : ℕ). drop start (take n items)) (sym sum) ∙ drop-take start (end - start) items
 
 -- without its first bytes it is the window with a higher start
-pub window-shrinks : (items : List ℕ) (start end used : ℕ) → used ≤ end - start
+pub window_shrinks : (items : List ℕ) (start end used : ℕ) → used ≤ end - start
     → take (end - (start + used)) (drop (start + used) items) ≡ drop used (take (end - start) (drop start items))
-window-shrinks items start end used fits =
+window_shrinks items start end used fits =
     let left = end - (start + used) in
     let sum : used + left ≡ end - start = omega arith in
     ap (take left) (sym (drop-drop used start items))
@@ -60,11 +60,11 @@ behind front buf past tail n k most size fits within =
     ∙ ap (λ (xs : List ℕ). front ++ xs) (take-append-le k buf past fits)
 
 -- bytes that are written behind its end come into a window with a higher end
-pub window-grows : (items before buf past tail : List ℕ) (start end k most size : ℕ)
+pub window_grows : (items before buf past tail : List ℕ) (start end k most size : ℕ)
     → before ≡ items → start ≤ end → end ≤ length items → k ≤ length buf → end + k ≤ most → size ≡ end + k - start
     → take size (drop start (take most ((take end before ++ (buf ++ past)) ++ tail)))
     ≡ take (end - start) (drop start items) ++ take k buf
-window-grows items before buf past tail start end k most size same ordered within fits room is =
+window_grows items before buf past tail start end k most size same ordered within fits room is =
     let all = take most ((take end before ++ (buf ++ past)) ++ tail) in
     let here : end ≤ length before = rw same within in
     let front : length (take end before) ≡ end = length-take-le end before here in
@@ -74,23 +74,23 @@ window-grows items before buf past tail start end k most size same ordered withi
     ∙ ap (drop start) (behind (take end before) buf past tail end k most front fits room)
     ∙ drop-append-le start (take end before) (take k buf) (rw front ordered)
     ∙ ap (λ (xs : List ℕ). xs ++ take k buf)
-    (ap (λ (xs : List ℕ). drop start (take end xs)) same ∙ window-is items start end ordered)
+    (ap (λ (xs : List ℕ). drop start (take end xs)) same ∙ window_is items start end ordered)
 
 -- bytes that are written behind its end leave a window as it is
-pub window-stays : (items before buf past tail : List ℕ) (start end most : ℕ)
+pub window_stays : (items before buf past tail : List ℕ) (start end most : ℕ)
     → before ≡ items → start ≤ end → end ≤ length items → end ≤ most
     → take (end - start) (drop start (take most ((take end before ++ (buf ++ past)) ++ tail)))
     ≡ take (end - start) (drop start items)
-window-stays items before buf past tail start end most same ordered within room =
-    window-grows items before buf past tail start end 0 most (end - start) same ordered within (omega arith)
+window_stays items before buf past tail start end most same ordered within room =
+    window_grows items before buf past tail start end 0 most (end - start) same ordered within (omega arith)
     (omega (arith, room)) (omega arith)
     ∙ append-nil (take (end - start) (drop start items))
 
--- what a window has room for behind its bytes stands in the buffer behind its end
-pub window-room : (items list : List ℕ) (start end capacity more : ℕ) → take (end - start) (drop start items) ≡ list
+-- what a window has room for behind its bytes the buffer has behind the window's end
+pub window_room : (items list : List ℕ) (start end capacity more : ℕ) → take (end - start) (drop start items) ≡ list
     → length items - start ≡ capacity
     → start ≤ end → end ≤ length items → length list + more ≤ capacity → end + more ≤ length items
-window-room items list start end capacity more is room ordered within fits =
+window_room items list start end capacity more is room ordered within fits =
     omega (
       arith,
       ap length is,

@@ -1,6 +1,6 @@
--- What the promise of `answer_events` cites: what each end says of the bytes that were read, the events that were answered
--- and the replies that were written (the whole file is this project's own). What the parts of the loop promise to one
--- another is in Parts.antt, and only the proofs need it.
+-- What the promise of `answer_events` cites: what each end says of the bytes that were read, the events that were
+-- answered and the replies that were written (the whole file is this project's own). What the parts of the loop promise
+-- to one another is in Parts.antt, and only the proofs need it.
 use Rattle.std.specs.Prelude.{
   ◌≡◌,
   ℕ,
@@ -31,8 +31,6 @@ use Rattle.ca_model.specs.Replies.{reply_frame, reply_frames}
 use Rattle.call_wire.specs.Next.{IsOutOfMemory}
 use Rattle.event_loop.specs.declared.ends.LoopEnd.{LoopEnd}
 use Rattle.event_loop.specs.declared.ends.LoopEnd.TheVariants as ends
-use Rattle.event_loop.specs.declared.ends.Stop.{Stop}
-use Rattle.event_loop.specs.declared.ends.Stop.TheVariants as stop
 
 -- what a source has left, what a sink has taken, and the state of a desk
 pub record Moment (M : Type 0) : Type 0 where
@@ -95,12 +93,14 @@ pub record IsDone (left : Option (List ℕ)) (front rest : List ℕ) : Type 0 wh
   pub had_only : HadOnly left front
   pub size : length front < LONGEST_INPUT
 
--- behind the events, at this place, no event begins, or the source had no more than the beginning of one
+-- behind the events, at this place, no event begins, or the source had no more than the beginning of one, and fewer
+-- bytes than are read at most
 pub record EndsInside (left : Option (List ℕ)) (place : ℕ) (front rest : List ℕ) : Type 0 where
   pub place_is : place ≡ length front
   pub why : IsMalformed rest ⊎ ((0 < length rest) × IsIncomplete rest × HadOnly left (front ++ rest))
   pub below : place < LONGEST_INPUT
   pub size : length (front ++ rest) ≤ LONGEST_INPUT
+  pub cut_below : IsIncomplete rest → length (front ++ rest) < LONGEST_INPUT
 
 -- no whole event is left among the bytes that were read, and more could be read
 pub record WantsMore (front rest : List ℕ) : Type 0 where
@@ -148,9 +148,3 @@ is_read_fault _ = false
 abbrev pub is_write_fault : LoopEnd → Bool
 is_write_fault ends.WriteFault = true
 is_write_fault _ = false
-
--- why the loop stopped, as an end
-abbrev pub end_of : Stop → LoopEnd
-end_of stop.ReadFault = ends.ReadFault
-end_of stop.WriteFault = ends.WriteFault
-end_of stop.NoMemory = ends.NoMemory

@@ -1,5 +1,5 @@
--- What the parts of the loop promise to one another (the whole file is this project's own): only the proofs need it. What
--- `answer_events` promises is in Ends.antt.
+-- What the parts of the loop promise to one another (the whole file is this project's own): only the proofs need it.
+-- What `answer_events` promises is in Ends.antt.
 use Rattle.std.specs.Prelude.{◌≡◌, ℕ, ◌+◌, ◌<◌, ◌≤◌, List, ◌++◌, length, Option}
 use Rattle.std.specs.Io.KnownBytes.{Appends, Consumes, IsAtEnd}
 use Rattle.ca_base.specs.declared.limits.TheConstants.{READ_SIZE}
@@ -9,6 +9,8 @@ use Rattle.ca_model.specs.Spelling.{IsIncomplete, IsMalformed}
 use Rattle.ca_model.specs.Replies.{reply_frame}
 use Rattle.call_wire.specs.declared.reading.Step.TheVariants as step
 use Rattle.call_wire.specs.Next.{IsNext, IsOutOfMemory}
+use Rattle.event_loop.specs.declared.ends.LoopEnd.{LoopEnd}
+use Rattle.event_loop.specs.declared.ends.LoopEnd.TheVariants as ends
 use Rattle.event_loop.specs.declared.ends.Stop.{Stop}
 use Rattle.event_loop.specs.declared.ends.Stop.TheVariants as stop
 use Rattle.event_loop.specs.declared.front.Front.{Front}
@@ -45,7 +47,7 @@ pub record IsUntouched {M : Type 0} (old new : M) (before after : Option (List �
   pub desk : new ≡ old
   pub written : after ≡ before
 
--- what stood at the front of the bytes, and what was done
+-- what was at the front of the bytes, and what was done
 abbrev pub FrontIs : {M : Type 0} → Answer M → List ℕ → M → M → Option (List ℕ) → Option (List ℕ) → Front → Type 0
 FrontIs answers bytes old new before after (front.Answered used) =
     AnswersFront answers Appends bytes used old new before after
@@ -59,7 +61,7 @@ StopsFront answers bytes old new before after stop.WriteFault =
 StopsFront answers bytes old new before after stop.NoMemory = IsOutOfMemory bytes × IsUntouched old new before after
 StopsFront answers bytes old new before after stop.ReadFault = ⊥
 
--- so many bytes, at most the limit, were read behind the old ones; none only if the source has no more
+-- a piece of `count` bytes, at most the limit, was read behind the old ones; none only if the source has no more
 pub record ReadsPiece (old new : List ℕ) (left left' : Option (List ℕ)) (limit count : ℕ) : Type 0 where
   pub piece : List ℕ
   pub behind : new ≡ old ++ piece
@@ -77,3 +79,9 @@ abbrev pub StopsRead : ℕ → List ℕ → Stop → Type 0
 StopsRead size list stop.WriteFault = ⊥
 StopsRead size list stop.ReadFault = Unit {0}
 StopsRead size list stop.NoMemory = LacksRoom size list
+
+-- why the loop stopped, as an end
+abbrev pub end_of : Stop → LoopEnd
+end_of stop.ReadFault = ends.ReadFault
+end_of stop.WriteFault = ends.WriteFault
+end_of stop.NoMemory = ends.NoMemory

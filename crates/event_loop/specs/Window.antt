@@ -1,4 +1,4 @@
--- Where the pending bytes stand in their buffer: no promise cites it, and only the proofs need it. This project's own.
+-- Where the pending bytes are in their buffer: no promise cites it, and only the proofs need it. This project's own.
 use Rattle.std.specs.Prelude.{ℕ, ◌+◌, ◌≤◌, List}
 use Rattle.ca_base.specs.declared.limits.TheConstants.{LENGTH_SIZE, LONGEST_BODY, READ_SIZE}
 

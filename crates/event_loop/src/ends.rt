@@ -43,7 +43,7 @@ impl From<NoMemory> for Stop {
 }
 
 impl From<Stop> for LoopEnd {
-    ghost use Rattle.event_loop.specs.Ends.{end_of};
+    ghost use Rattle.event_loop.specs.Parts.{end_of};
 
     ghost from_gives = { λ s end. end ≡ end_of s };
 

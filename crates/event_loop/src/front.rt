@@ -10,10 +10,10 @@ use ca_model::Event;
 use call_wire::{Desk, Step, next_event};
 use std::alloc::Global;
 
-/// What stood at the front of some bytes.
+/// What was at the front of some bytes.
 #[derive(Clone, Copy, Debug, PartialEq, Eq)]
 pub enum Front {
-    /// An event of so many bytes, which was answered.
+    /// An event, of `used` bytes, which was answered.
     Answered { used: usize },
     /// Fewer bytes than a whole frame of valid length.
     NeedMore,
@@ -21,8 +21,8 @@ pub enum Front {
     Malformed,
 }
 
-ghost use Rattle.event_loop.specs.Ends.{RoseIf, end_of, is_write_fault};
-ghost use Rattle.event_loop.specs.Parts.{FrontIs, StopsFront};
+ghost use Rattle.event_loop.specs.Ends.{RoseIf, is_write_fault};
+ghost use Rattle.event_loop.specs.Parts.{FrontIs, StopsFront, end_of};
 
 // a dropped event splits a proof by its variants, so it is dropped here alone
 fn discard(_event: Event) {}
@@ -36,8 +36,10 @@ pub fn answer_front<K: Sink, M: Desk>(
     buffers: &mut ReplyBuffers,
 ) -> Result<Front, Stop>
     requires { (m : M) (e : TheEvent) → M.reply_room m e ≤ buffers.old }
-    ensures ok { IfOk result (FrontIs M.answers bytes.now desk.old desk.new (K.written output.old) (K.written output.new)) }
-    ensures err { IfErr result (StopsFront M.answers bytes.now desk.old desk.new (K.written output.old) (K.written output.new)) }
+    ensures ok { IfOk result
+        (FrontIs M.answers bytes.now desk.old desk.new (K.written output.old) (K.written output.new)) }
+    ensures err { IfErr result
+        (StopsFront M.answers bytes.now desk.old desk.new (K.written output.old) (K.written output.new)) }
     ensures faults { MatchResult result (λ _. K.faults output.new ≡ K.faults output.old)
         (λ stop. RoseIf (is_write_fault (end_of stop)) (K.faults output.old) (K.faults output.new)) }
     ensures room { buffers.new ≡ buffers.old }

@@ -1,8 +1,9 @@
 //! The bytes that were read and aren't answered yet.
 
-ghost use Rattle.std.specs.Prelude.{◌≡◌, ◌+◌, ◌-◌, ◌<◌, ◌≤◌, [], length, take, drop, vec_len, IfOk, IfErr, OnOk, OnErr, MatchResult};
-ghost use Rattle.event_loop.specs.Ends.{RoseIf, end_of, is_read_fault};
-ghost use Rattle.event_loop.specs.Parts.{LacksRoom, ReadsPiece, StopsRead};
+ghost use Rattle.std.specs.Prelude.{◌≡◌, ◌+◌, ◌-◌, ◌<◌, ◌≤◌, [], length, take, drop, vec_len};
+ghost use Rattle.std.specs.Prelude.{IfOk, IfErr, OnOk, OnErr, MatchResult};
+ghost use Rattle.event_loop.specs.Ends.{RoseIf, is_read_fault};
+ghost use Rattle.event_loop.specs.Parts.{LacksRoom, ReadsPiece, StopsRead, end_of};
 
 use crate::ends::Stop;
 use ca_base::limits::{LENGTH_SIZE, LONGEST_BODY, READ_SIZE};
@@ -10,8 +11,9 @@ use ca_base::{NoMemory, Source};
 use std::alloc::Global;
 use std::marker::Model;
 
-/// The pending bytes stand from `start` to `end` in a buffer. What was answered leaves at the front by a higher `start`, and
-/// a piece comes in behind `end`. The buffer grows by zeros, and is never zeroed again. It has at most a frame and a piece.
+/// The pending bytes are those from `start` to `end` in a buffer. What was answered leaves at the front by a higher
+/// `start`, and a piece comes in behind `end`. The buffer grows by zeros, and is never zeroed again. It has at most a
+/// frame and a piece.
 #[derive(Drop)]
 pub struct Pending {
     bytes: Vec<u8>,
@@ -79,8 +81,8 @@ impl Pending {
         self.start += used;
     }
 
-    /// Makes room for a piece behind the bytes: they move to the front of the buffer if the room behind them is too small,
-    /// and then the buffer grows if it must. Only that takes memory.
+    /// Makes room for a piece behind the bytes: they move to the front of the buffer if the room behind them is too
+    /// small, and then the buffer grows if it must. Only that takes memory.
     fn make_room(&mut self) -> Result<(), NoMemory>
         requires { length self.old.list ≤ LENGTH_SIZE + LONGEST_BODY }
         ensures list { self.new.list ≡ self.old.list }
@@ -101,12 +103,14 @@ impl Pending {
         Ok(())
     }
 
-    /// Reads at most `limit` bytes behind the pending ones, and answers how many came. 0 is the end of the source. After
-    /// `NoMemory` the source wasn't asked. That comes only if the whole buffer is too small for a piece behind them.
+    /// Reads at most `limit` bytes behind the pending ones, and answers how many came. 0 is the end of the source.
+    /// After `NoMemory` the source wasn't asked. That comes only if the whole buffer is too small for a piece behind
+    /// them.
     pub fn read<S: Source>(&mut self, input: &mut S, limit: u64) -> Result<usize, Stop>
         requires more { 0 < limit }
         requires incomplete { length self.old.list ≤ LENGTH_SIZE + LONGEST_BODY }
-        ensures ok { IfOk result (λ count. ReadsPiece self.old.list self.new.list (S.left input.old) (S.left input.new) limit count) }
+        ensures ok { IfOk result (λ count.
+            ReadsPiece self.old.list self.new.list (S.left input.old) (S.left input.new) limit count) }
         ensures list { OnErr result (self.new.list ≡ self.old.list) }
         ensures left { OnErr result (S.left input.new ≡ S.left input.old) }
         ensures err { IfErr result (StopsRead self.old.size self.old.list) }

@@ -16,7 +16,8 @@ use std::marker::Model;
 /// The bytes of a reply's frame before its payload: its length, kind, connection, tag and result.
 const REPLY_HEAD: usize = 14;
 
-/// Memory for a reply whose payload has at most `room` bytes, and for its frame. It is taken once and serves each reply.
+/// Memory for a reply whose payload has at most `room` bytes, and for its frame. It is taken once and serves each
+/// reply.
 #[derive(Drop)]
 pub struct ReplyBuffers {
     room: usize,
@@ -74,8 +75,10 @@ impl ReplyBuffers {
         desk: &mut M,
     ) -> Result<(), Failed>
         requires { (m : M) (e : TheEvent) → M.reply_room m e ≤ self.old }
-        ensures ok { OnOk result (AnswersOne M.answers Appends event.now desk.old desk.new (K.written output.old) (K.written output.new)) }
-        ensures err { OnErr result (AnswersOne M.answers CutsOff event.now desk.old desk.new (K.written output.old) (K.written output.new)) }
+        ensures ok { OnOk result
+            (AnswersOne M.answers Appends event.now desk.old desk.new (K.written output.old) (K.written output.new)) }
+        ensures err { OnErr result
+            (AnswersOne M.answers CutsOff event.now desk.old desk.new (K.written output.old) (K.written output.new)) }
         ensures cause { Counts result (K.faults output.old) (K.faults output.new) }
         ensures room { self.new ≡ self.old }
     {

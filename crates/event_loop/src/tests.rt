@@ -27,7 +27,7 @@ impl Desk for Toy {
     }
 }
 
-/// Gives at most so many bytes at a time.
+/// Gives at most `size` bytes at a time.
 #[derive(Drop)]
 struct Drip {
     source: MemSource,
@@ -56,7 +56,7 @@ const RELEASE: [u8; 27] = [
     0x57, 0x0d, 3, 0, 3, 1, 0, 0, 0, 0, 33, 2, 0, 0, 0, 0, 0, 0, 0, 80, 195, 0, 0, 0, 0, 0, 0,
 ];
 
-/// So many periods and then the rest, in pieces of so many bytes at most, of which one read fails, and one write.
+/// `periods` periods and then the rest, in pieces of `size` bytes at most, of which one read fails, and one write.
 #[derive(Drop)]
 struct Run<'a> {
     periods: usize,
@@ -66,7 +66,7 @@ struct Run<'a> {
     write: u64,
 }
 
-/// These bytes, so many times.
+/// These bytes, `count` times.
 fn repeated(alloc: Global, bytes: &[u8], count: usize) -> Result<Bytes, NoMemory> {
     let mut all = Bytes::new(alloc);
     for _ in 0..count {
@@ -75,7 +75,7 @@ fn repeated(alloc: Global, bytes: &[u8], count: usize) -> Result<Bytes, NoMemory
     Ok(all)
 }
 
-/// Runs the loop over the toy, and tests how it ends and that so many replies were written.
+/// Runs the loop over the toy, and tests how it ends and that `replies` replies were written.
 fn expect(
     rt: &impl Abort,
     alloc: Global,

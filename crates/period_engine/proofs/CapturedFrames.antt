@@ -3,13 +3,13 @@ use Rattle.std.proofs.Common.{◌≡◌, ◌≢◌, ℕ, true, false, List, [], 
 use Rattle.std.specs.Prelude.{◌==◌, flat_map, Option, Result, Ok, Err, IsErr}
 use Rattle.std.specs.List.{AllZip}
 use Rattle.std.proofs.lemmas.Bool.Decides.{nat_tests}
-use Rattle.ca_base.specs.declared.outside.Failed.{Failed}
+use Rattle.ca_base.specs.declared.environment.Failed.{Failed}
 use Rattle.device_io.specs.DeviceLog.{DeviceLog}
 use Rattle.wave_format.specs.Frame.{frames_from}
 use Rattle.ca_stage.specs.Given.{frames_given, whole_frames}
 use Rattle.ca_stage.specs.Stage.{Frame, Stream}
 use Rattle.ca_stage.specs.Periods.{fed_if, is_recording}
-use Rattle.buffer_ring.specs.declared.step.Step.{Step}
+use Rattle.buffer_ring.specs.declared.step.StoreStep.{StoreStep}
 use Rattle.period_engine.specs.declared.entry.StreamEntry.{StreamEntry}
 use Rattle.period_engine.specs.SubSteps.{Turned}
 use Rattle.period_engine.specs.Feeds.{Captures, GivesFrames, feeds_given}
@@ -21,7 +21,7 @@ no_frames k is = grind (arith, nat_tests)
 some_frames : (k : ℕ) → k ≢ 0 → (k == 0) ≡ false
 some_frames k other = grind (arith, nat_tests)
 
-module _ {E : Type 0} (moves : E → List Step → E → Type 0) (none : (e : E) → moves e [] e) where
+module _ {E : Type 0} (moves : E → List StoreStep → E → Type 0) (none : (e : E) → moves e [] e) where
   -- entries whose streams stay as they are
   all_unmoved : (f : Stream → Stream) → ((s : Stream) → f s ≡ s) → (xs : List (StreamEntry E))
       → AllZip (Turned moves f) xs xs

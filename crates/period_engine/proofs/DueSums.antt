@@ -45,7 +45,7 @@ use Rattle.ca_stage.specs.Stage.{Frame, BufferData, is_open, is_render, no_data}
 use Rattle.ca_stage.specs.Moves.{Mixing}
 use Rattle.ca_stage.specs.Mix.{sample_of, contribution, due_frames, streams_on}
 use Rattle.buffer_ring.specs.declared.step.EndState.{EndState}
-use Rattle.buffer_ring.specs.declared.step.Step.{Step}
+use Rattle.buffer_ring.specs.declared.step.StoreStep.{StoreStep}
 use Rattle.buffer_ring.specs.Steps.{reads_from}
 use Rattle.period_engine.specs.declared.entry.StreamEntry.{StreamEntry}
 use Rattle.period_engine.specs.Entries.{streams_of, stream_with, is_played}
@@ -166,7 +166,7 @@ sample_of-frame_of : (channels word channel : ℕ) → channel < channels
 sample_of-frame_of channels word channel lt =
     get_or-map-range_with_len (sample_at word) 0 channels channel channel (pos 0) lt (omega arith)
 
-module _ {E : Type 0} (moves : E → List Step → E → Type 0) (state : E → EndState) (channels : ℕ)
+module _ {E : Type 0} (moves : E → List StoreStep → E → Type 0) (state : E → EndState) (channels : ℕ)
     (datas : ℕ → BufferData) (place channel : ℕ) (within : channel < channels) where
   -- an entry with a frame at this place
   adds_frame : (a b : StreamEntry E) (old new : List ℤ) (h : AddsEntry moves state channels a b old new)
@@ -208,7 +208,7 @@ module _ {E : Type 0} (moves : E → List Step → E → Type 0) (state : E → 
   adds_part a b old new h agrees fits renders (inr le) = adds_nothing a b old new h le
 
   -- the sum of a channel is what all entries add
-  pub sum_along : (steps : ℕ → List Step) (xs ys : List (StreamEntry E)) (old new : List ℤ)
+  pub sum_along : (steps : ℕ → List StoreStep) (xs ys : List (StreamEntry E)) (old new : List ℤ)
       (h : Threads (AddsEntry moves state channels) xs ys old new) → Follows moves state channels steps xs ys old new h
       → AllAgree steps datas xs → All (λ e. 0 < e.picked → e.channels ≡ channels) xs
       → All (λ e. 0 < e.picked → is_render e.kind ≡ true) xs

@@ -12,7 +12,7 @@ use Rattle.ca_stage.specs.Moves.{fed, moved}
 use Rattle.ca_stage.specs.Periods.{fed_if}
 use Rattle.client_state.specs.Frames.{frames_in}
 use Rattle.buffer_ring.specs.declared.step.EndState.{EndState}
-use Rattle.buffer_ring.specs.declared.step.Step.{Step}
+use Rattle.buffer_ring.specs.declared.step.StoreStep.{StoreStep}
 use Rattle.period_engine.specs.declared.entry.StreamEntry.{StreamEntry}
 use Rattle.period_engine.specs.Entries.{IsFeedable, IsRested, is_heard, stream_with}
 use Rattle.period_engine.specs.SubSteps.{Turned}
@@ -33,7 +33,7 @@ module _ {X : Type 0} (test : X → Bool) (xs : List X) (i : ℕ) (x : X)
   none_more k d within = by_place k d (cases_lt k i) within
 
 -- one entry was offered the packet of these words
-abbrev pub Feeds : {E : Type 0} → (E → List Step → E → Type 0) → (E → EndState) → (Stream → Bool) → List ℕ
+abbrev pub Feeds : {E : Type 0} → (E → List StoreStep → E → Type 0) → (E → EndState) → (Stream → Bool) → List ℕ
     → StreamEntry E → StreamEntry E → Type 0
 Feeds moves state test words a b = TurnedBy moves test words a b × IsRested state b
 
@@ -45,7 +45,7 @@ is_fed_by_entry kind.Capture number d e = refl
 is_fed_by_entry kind.Loopback number d e = refl
 
 -- two moves that are alike for an entry
-pub turned_alike : {E : Type 0} (moves : E → List Step → E → Type 0) (f g : Stream → Stream) (a b : StreamEntry E)
+pub turned_alike : {E : Type 0} (moves : E → List StoreStep → E → Type 0) (f g : Stream → Stream) (a b : StreamEntry E)
     → ((d : BufferData) → g (stream_with d a) ≡ f (stream_with d a)) → Turned moves f a b → Turned moves g a b
 turned_alike moves f g a b alike h = record {
   same = h.same;
@@ -60,7 +60,7 @@ turned_alike moves f g a b alike h = record {
   ever = h.ever ∙ ap (λ s. s.ever) (sym (alike no_data));
 }
 
-module _ {E : Type 0} (moves : E → List Step → E → Type 0) (test : Stream → Bool) (a b : StreamEntry E)
+module _ {E : Type 0} (moves : E → List StoreStep → E → Type 0) (test : Stream → Bool) (a b : StreamEntry E)
     (alike : (d : BufferData) → test (stream_with d a) ≡ test (stream_with no_data a)) where
   -- an entry of the test that was offered frames
   pub fed_if_so : (frames : List Frame) → test (stream_with no_data a) ≡ true
@@ -90,7 +90,7 @@ module _ {E : Type 0} (moves : E → List Step → E → Type 0) (test : Stream 
       turned_alike moves (fed_if test frames) (fed_if test more) a b
       (same_frames frames more (test (stream_with no_data a)) refl same) h
 
-module _ {E : Type 0} (moves : E → List Step → E → Type 0) (test : Stream → Bool)
+module _ {E : Type 0} (moves : E → List StoreStep → E → Type 0) (test : Stream → Bool)
     (alike : (d : BufferData) (e : StreamEntry E) → test (stream_with d e) ≡ test (stream_with no_data e)) where
   -- entries none of which is one of the test
   pub all_unfed : (frames : List Frame) → ((e : E) → moves e [] e) → (xs : List (StreamEntry E))
@@ -102,7 +102,7 @@ module _ {E : Type 0} (moves : E → List Step → E → Type 0) (test : Stream 
     all_unfed frames none xs (All-tail (λ e. test (stream_with no_data e) ≡ false) x xs h),
   )
 
-  -- entries of so many channels, if they are those of the test
+  -- entries of this many channels, if they are those of the test
   pub all_fed : (channels : ℕ) (words : List ℕ) (xs ys : List (StreamEntry E))
       → All (λ e. test (stream_with no_data e) ≡ true → e.channels ≡ channels) xs
       → AllZip (TurnedBy moves test words) xs ys

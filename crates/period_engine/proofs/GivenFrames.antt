@@ -17,7 +17,7 @@ frames_of_front p channels bytes =
     let rows : p * channels * 2 ≡ p * (channels * 2) = grind arith in
     ap (λ k. frames_from p channels (take k bytes)) rows ∙ frames_front p channels bytes
 
--- how many bytes stand behind a place
+-- how many bytes are behind a place
 pub length-behind : (k at : ℕ) (bytes tail : List ℕ) → k ≡ length bytes - at
     → length (take k (drop at (bytes ++ tail))) ≡ length bytes - at
 length-behind k at bytes tail is =
@@ -30,7 +30,7 @@ module _ (p channels n : ℕ) (bytes given : List ℕ) (some : 1 ≤ channels) (
   pub whole_are : n / (channels * 2) ≡ whole_frames channels given
   whole_are = ap (λ k. k / (channels * 2)) (sym (length-take-le n bytes within) ∙ ap (λ xs. length xs) front)
 
-  -- and the frames are these, and silence, if what stands behind them is 0
+  -- and the frames are these, and silence, if what is behind them is 0
   frames_are_given : (whole : ℕ) → whole ≡ n / (channels * 2)
       → frames_from p channels
       (take (whole * (channels * 2)) bytes ++ replicate (length bytes - whole * (channels * 2)) 0)

@@ -5,7 +5,7 @@ use Rattle.std.proofs.lemmas.List.{take-take, take-append-le}
 use Rattle.std.proofs.lemmas.List.Elements.{All-nil, All-cons, All-head, All-tail}
 use Rattle.std.proofs.Math.Nat.{mul-le-mul_left, mul_comm}
 use Rattle.buffer_ring.specs.declared.step.EndState.{EndState}
-use Rattle.buffer_ring.specs.declared.step.Step.{Step}
+use Rattle.buffer_ring.specs.declared.step.StoreStep.{StoreStep}
 use Rattle.period_engine.specs.declared.entry.StreamEntry.{StreamEntry}
 use Rattle.period_engine.specs.Entries.{IsPicked, is_played}
 use Rattle.period_engine.specs.Sounds.{IsMixable}
@@ -24,7 +24,7 @@ addable state number p channels e picked mixable = record {
   gains = mixable.gains;
 }
 
-module _ {E : Type 0} (moves : E → List Step → E → Type 0) (state : E → EndState) (number p channels : ℕ) where
+module _ {E : Type 0} (moves : E → List StoreStep → E → Type 0) (state : E → EndState) (number p channels : ℕ) where
   -- an entry that was read is picked as before
   still_picked : (a b : StreamEntry E) (old new : List ℤ) → AddsEntry moves state channels a b old new
       → IsPicked state number p a → IsPicked state number p b

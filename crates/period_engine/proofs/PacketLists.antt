@@ -20,7 +20,7 @@ packets_in-nil channels period =
     let none : 0 / suc period ≡ 0 = omega arith in
     ap (λ n. packets_from n channels period []) none
 
--- so many words are so many packets
+-- how many packets there are in a number of words
 pub packets_in-whole : (n channels period : ℕ) (words : List ℕ) → length words ≡ n * suc period
     → packets_in channels period words ≡ packets_from n channels period words
 packets_in-whole n channels period words size =

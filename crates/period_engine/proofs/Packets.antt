@@ -12,8 +12,8 @@ use Rattle.ca_stage.specs.Moves.{fed, moved}
 use Rattle.client_state.specs.Frames.{frames_in}
 use Rattle.wave_format.specs.Frame.{frame_of}
 use Rattle.buffer_ring.specs.declared.step.Deed.TheVariants as deed
-use Rattle.buffer_ring.specs.declared.step.Step.{Step}
-use Rattle.buffer_ring.specs.declared.step.Step.TheVariants as step
+use Rattle.buffer_ring.specs.declared.step.StoreStep.{StoreStep}
+use Rattle.buffer_ring.specs.declared.step.StoreStep.TheVariants as step
 use Rattle.period_engine.specs.declared.entry.StreamEntry.{StreamEntry}
 use Rattle.period_engine.specs.Packed.{packet_of}
 use Rattle.period_engine.specs.SubSteps.{Turned}
@@ -57,7 +57,7 @@ fits_none held n period room is full =
     let above = div_below room (period + 1) (suc n) (omega arith) (omega (arith, more)) in
     grind (arith, nat_tests)
 
-module _ {E : Type 0} (moves : E → List Step → E → Type 0) (a : StreamEntry E) (store : E) (n : ℕ) (rest : List ℕ)
+module _ {E : Type 0} (moves : E → List StoreStep → E → Type 0) (a : StreamEntry E) (store : E) (n : ℕ) (rest : List ℕ)
     (packs : is_render a.kind ≡ false) (size : length rest ≡ a.period) (n_is : n ≡ a.period) where
   count : length (frames_in a.channels rest) ≡ n
   count = length-map rest (frame_of a.channels) ∙ size ∙ sym n_is

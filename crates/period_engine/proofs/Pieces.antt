@@ -72,9 +72,9 @@ module _ {e : ℕ} {bytes rest : List ℕ} {told told' : Option (List DeviceLog)
   pub taking_more : (n : ℕ) (after : List ℕ) (next : Option (List DeviceLog)) → 0 < n → n ≤ length rest
       → after ≡ drop n rest
       → next ≡ option_map (add_written e (take n rest)) told' → Taking e bytes after told next
-  taking_more n after next some within after-is next-is = record {
+  taking_more n after next some within after_is next-is = record {
     counts = so_far.counts ++ n ∷ [];
-    leaves = subst (Leaves bytes (so_far.counts ++ n ∷ [])) (sym after-is)
+    leaves = subst (Leaves bytes (so_far.counts ++ n ∷ [])) (sym after_is)
         (leaves_push bytes so_far.counts rest n so_far.leaves some within);
     tells = next-is ∙ ap (option_map (add_written e (take n rest))) so_far.tells
         ∙ tells_push (pieces_taken e bytes so_far.counts) e (take n rest) told

@@ -5,13 +5,13 @@ use Rattle.std.proofs.Common.{length-append, append-nil, append_assoc}
 use Rattle.std.specs.Prelude.{Option, Some, None, IfSome, flat_map, Result, Ok, Err, is_ok}
 use Rattle.std.specs.Option.{option_map}
 use Rattle.ca_base.specs.Faults.{Rose}
-use Rattle.ca_base.specs.declared.outside.Failed.{Failed}
+use Rattle.ca_base.specs.declared.environment.Failed.{Failed}
 use Rattle.device_io.specs.DeviceLog.{DeviceLog, left_at, take_left}
 use Rattle.std.proofs.lemmas.List.{length-take-le}
 use Rattle.std.proofs.Math.Seq.{take-append_seam}
 use Rattle.period_engine.specs.Feeds.{AreGiven, GivesBytes, GivesFrom}
 
--- so many bytes that were asked for came in pieces, none of them empty, and so many are left
+-- of the bytes that were asked for some came in pieces, none of them empty, and this many are left
 abbrev pub Fills : ℕ → List (List ℕ) → ℕ → Type 0
 Fills size [] rest = rest ≡ size
 Fills size ([] ∷ pieces) rest = ⊥

@@ -8,14 +8,14 @@ use Rattle.volume_stack.specs.Scaling.{unit_gain}
 use Rattle.ca_stage.specs.Stage.{Stream, no_data}
 use Rattle.ca_stage.specs.Moves.{StreamMove, moved, picked, retired}
 use Rattle.ca_stage.specs.Periods.{is_playing}
-use Rattle.buffer_ring.specs.declared.step.Step.{Step}
+use Rattle.buffer_ring.specs.declared.step.StoreStep.{StoreStep}
 use Rattle.period_engine.specs.declared.entry.StreamEntry.{StreamEntry}
 use Rattle.ca_stage.specs.Order.{RisesFrom}
 use Rattle.period_engine.specs.Entries.{AreEntries, IsFeedable, is_heard, stream_with}
 use Rattle.period_engine.specs.Sounds.{AllTakeSteps, IsMixable, TakesSteps}
 use Rattle.period_engine.specs.SubSteps.{Turned, if_playing, picks_on, retires_on}
 
-module _ {E : Type 0} (moves : E → List Step → E → Type 0) (f : Stream → Stream) where
+module _ {E : Type 0} (moves : E → List StoreStep → E → Type 0) (f : Stream → Stream) where
   same_clients : (xs ys : List (StreamEntry E)) → AllZip (Turned moves f) xs ys
       → map (λ e. e.client.0) ys ≡ map (λ e. e.client.0) xs
   same_clients [] [] h = refl
@@ -85,7 +85,7 @@ retires_keep n = keeps_if n retired (record { running = λ s. refl; gate = λ s.
 abbrev pub MayHear : {E : Type 0} → ℕ → ℕ → ℕ → StreamEntry E → Type 0
 MayHear number channels p e = is_heard number e ≡ true → IsFeedable channels p e
 
-module _ {E : Type 0} (moves : E → List Step → E → Type 0) (number channels p : ℕ) where
+module _ {E : Type 0} (moves : E → List StoreStep → E → Type 0) (number channels p : ℕ) where
   one_turned : (f : Stream → Stream) → KeepsFeeds f → (a b : StreamEntry E) → Turned moves f a b
       → MayHear number channels p a → MayHear number channels p b
   one_turned f keeps a b h may heard =
@@ -113,7 +113,7 @@ module _ {E : Type 0} (moves : E → List Step → E → Type 0) (number channel
   still_fed f keeps [] (y ∷ ys) h may = absurd h
   still_fed f keeps (x ∷ xs) [] h may = absurd h
 
-  one_read : (steps : List Step) (a b : StreamEntry E) → TakesSteps moves steps a b
+  one_read : (steps : List StoreStep) (a b : StreamEntry E) → TakesSteps moves steps a b
       → MayHear number channels p a → MayHear number channels p b
   one_read steps a b h may heard =
       let running = h.running in
@@ -129,7 +129,7 @@ module _ {E : Type 0} (moves : E → List Step → E → Type 0) (number channel
       }
 
   -- also those that a Sound read
-  pub read_fed : (steps : ℕ → List Step) (xs ys : List (StreamEntry E)) → AllTakeSteps moves steps xs ys
+  pub read_fed : (steps : ℕ → List StoreStep) (xs ys : List (StreamEntry E)) → AllTakeSteps moves steps xs ys
       → All (MayHear number channels p) xs → All (MayHear number channels p) ys
   read_fed steps [] [] h may = All-nil (MayHear number channels p)
   read_fed steps (x ∷ xs) (y ∷ ys) h may =

@@ -33,7 +33,7 @@ use Rattle.ca_stage.specs.Stage.{Stream, BufferData}
 use Rattle.ca_stage.specs.Moves.{Mixing}
 use Rattle.ca_stage.specs.Mix.{contribution, due_frames, streams_on, mixed_sample, mix_of, sound_bytes}
 use Rattle.buffer_ring.specs.declared.step.EndState.{EndState}
-use Rattle.buffer_ring.specs.declared.step.Step.{Step}
+use Rattle.buffer_ring.specs.declared.step.StoreStep.{StoreStep}
 use Rattle.period_engine.specs.declared.entry.StreamEntry.{StreamEntry}
 use Rattle.period_engine.specs.Entries.{streams_of, is_played}
 use Rattle.period_engine.specs.Agreement.{AllAgree}
@@ -66,8 +66,8 @@ by_channel m streams =
 from_zero : (z : ℤ) → pos 0 +ℤ z ≡ z
 from_zero z = omega (arith, ints)
 
-module _ {E : Type 0} (moves : E → List Step → E → Type 0) (state : E → EndState) (ends : List ℕ)
-    (number frames size : ℕ) (xs ys : List (StreamEntry E)) (sums : List ℤ) (steps : ℕ → List Step)
+module _ {E : Type 0} (moves : E → List StoreStep → E → Type 0) (state : E → EndState) (ends : List ℕ)
+    (number frames size : ℕ) (xs ys : List (StreamEntry E)) (sums : List ℤ) (steps : ℕ → List StoreStep)
     (h : Threads (AddsEntry moves state (length ends)) xs ys (replicate size (pos 0)) sums)
     (follows : Follows moves state (length ends) steps xs ys (replicate size (pos 0)) sums h)
     (datas : ℕ → BufferData) (m : Mixing) (agree : AllAgree steps datas xs) (mixes : MixesThese m number frames ends xs)

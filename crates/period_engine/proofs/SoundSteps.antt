@@ -24,7 +24,7 @@ use Rattle.std.proofs.lemmas.Bool.Decides.{nat_tests}
 use Rattle.ca_stage.specs.Stage.{BufferData}
 use Rattle.ca_stage.specs.Order.{RisesFrom}
 use Rattle.buffer_ring.specs.declared.step.EndState.{EndState}
-use Rattle.buffer_ring.specs.declared.step.Step.{Step}
+use Rattle.buffer_ring.specs.declared.step.StoreStep.{StoreStep}
 use Rattle.buffer_ring.specs.Steps.{reads_from}
 use Rattle.period_engine.specs.declared.entry.StreamEntry.{StreamEntry}
 use Rattle.period_engine.specs.Agreement.{ArePacked, Layout, data_after}
@@ -45,15 +45,15 @@ above : (m n : ℕ) → suc m ≤ n → (n == m) ≡ false
 above m n le = grind (arith, nat_tests)
 
 -- and so do those of a client
-by_client : (is : Bool) (words : List ℕ) (ss : List Step) (l : Layout) (d : BufferData) → data_after l ss d ≡ d
+by_client : (is : Bool) (words : List ℕ) (ss : List StoreStep) (l : Layout) (d : BufferData) → data_after l ss d ≡ d
     → data_after l (if is then reads_from 0 words else ss) d ≡ d
 by_client true words ss l d same = reads_leave l 0 words d
 by_client false words ss l d same = same
 
-module _ {E : Type 0} (moves : E → List Step → E → Type 0) (state : E → EndState) (channels : ℕ) where
+module _ {E : Type 0} (moves : E → List StoreStep → E → Type 0) (state : E → EndState) (channels : ℕ) where
   -- the reads of the entry of a client
   abbrev pub steps_of : (xs ys : List (StreamEntry E)) (old new : List ℤ)
-      → Threads (AddsEntry moves state channels) xs ys old new → ℕ → List Step
+      → Threads (AddsEntry moves state channels) xs ys old new → ℕ → List StoreStep
   steps_of [] [] old new h n = []
   steps_of (x ∷ xs) (y ∷ ys) old new h n =
       if n == x.client.0 then reads_from 0 h.1.words else steps_of xs ys h.0 new h.2 n
@@ -61,7 +61,7 @@ module _ {E : Type 0} (moves : E → List Step → E → Type 0) (state : E → 
   steps_of (x ∷ xs) [] old new h n = []
 
   -- steps by client are the reads of each entry
-  abbrev pub Follows : (ℕ → List Step) → (xs ys : List (StreamEntry E)) (old new : List ℤ)
+  abbrev pub Follows : (ℕ → List StoreStep) → (xs ys : List (StreamEntry E)) (old new : List ℤ)
       → Threads (AddsEntry moves state channels) xs ys old new → Type 0
   Follows steps [] [] old new h = Unit {0}
   Follows steps (x ∷ xs) (y ∷ ys) old new h =
@@ -69,8 +69,8 @@ module _ {E : Type 0} (moves : E → List Step → E → Type 0) (state : E → 
   Follows steps [] (y ∷ ys) old new h = Unit {0}
   Follows steps (x ∷ xs) [] old new h = Unit {0}
 
-  follows_alike : (f g : ℕ → List Step) (low : ℕ) → ((n : ℕ) → low ≤ n → g n ≡ f n) → (xs ys : List (StreamEntry E))
-      (old new : List ℤ) (h : Threads (AddsEntry moves state channels) xs ys old new)
+  follows_alike : (f g : ℕ → List StoreStep) (low : ℕ) → ((n : ℕ) → low ≤ n → g n ≡ f n)
+      → (xs ys : List (StreamEntry E)) (old new : List ℤ) (h : Threads (AddsEntry moves state channels) xs ys old new)
       → RisesFrom low (map (λ e. e.client.0) xs) → Follows f xs ys old new h → Follows g xs ys old new h
   follows_alike f g low alike [] [] old new h rises follows = tt
   follows_alike f g low alike (x ∷ xs) (y ∷ ys) old new h rises follows = (
@@ -96,7 +96,7 @@ module _ {E : Type 0} (moves : E → List Step → E → Type 0) (state : E → 
   steps_follow low (x ∷ xs) [] old new h rises = tt
 
   -- each entry took its steps
-  pub all_take : (steps : ℕ → List Step) (xs ys : List (StreamEntry E)) (old new : List ℤ)
+  pub all_take : (steps : ℕ → List StoreStep) (xs ys : List (StreamEntry E)) (old new : List ℤ)
       (h : Threads (AddsEntry moves state channels) xs ys old new) → Follows steps xs ys old new h
       → AllTakeSteps moves steps xs ys
   all_take steps [] [] old new h follows = tt

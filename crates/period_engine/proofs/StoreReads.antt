@@ -23,12 +23,13 @@ use Rattle.std.proofs.Common.{
   length-append,
 }
 use Rattle.buffer_ring.specs.declared.step.EndState.{EndState}
-use Rattle.buffer_ring.specs.declared.step.Step.{Step}
-use Rattle.buffer_ring.specs.declared.step.Step.TheVariants as step
+use Rattle.buffer_ring.specs.declared.step.StoreStep.{StoreStep}
+use Rattle.buffer_ring.specs.declared.step.StoreStep.TheVariants as step
 use Rattle.buffer_ring.specs.Steps.{reads_from}
 use Rattle.period_engine.specs.declared.entry.StreamEntry.{StreamEntry}
 use Rattle.period_engine.specs.Added.{AddsWords, AddsStore, AddsEntry}
 use Rattle.period_engine.proofs.SoundSteps.{reads_packed}
+use Rattle.period_engine.proofs.Turns.{same_but}
 use Rattle.period_engine.proofs.WordBlocks.{more_words}
 
 reads_append : (start : ℕ) (words more : List ℕ)
@@ -41,10 +42,10 @@ reads_append start (word ∷ words) more =
     ap (λ steps. step.Reads start word ∷ steps)
     (ap (λ place. reads_from (suc start) words ++ reads_from place more) here ∙ reads_append (suc start) words more)
 
-module _ {E : Type 0} {moves : E → List Step → E → Type 0} {state : E → EndState} {gains : List ℕ}
+module _ {E : Type 0} {moves : E → List StoreStep → E → Type 0} {state : E → EndState} {gains : List ℕ}
     {channels place : ℕ} {a b : E} {old mid : List ℤ}
     (so_far : AddsStore moves state gains channels place a b old mid)
-    (joins : (a b c : E) (xs ys : List Step) → moves a xs b → moves b ys c → moves a (xs ++ ys) c) where
+    (joins : (a b c : E) (xs ys : List StoreStep) → moves a xs b → moves b ys c → moves a (xs ++ ys) c) where
   -- a block of words more was read and added
   pub one_block : (c : E) (words : List ℕ) (size : ℕ) (part : List ℤ) → length words ≡ size
       → channels * place ≤ length mid → moves b (reads_from place words) c → state c ≡ state b
@@ -66,7 +67,7 @@ module _ {E : Type 0} {moves : E → List Step → E → Type 0} {state : E → 
       }
 
 -- what was picked of an entry was read and added: nothing else of it changed
-pub adds_picked : {E : Type 0} (moves : E → List Step → E → Type 0) (state : E → EndState) (channels n : ℕ)
+pub adds_picked : {E : Type 0} (moves : E → List StoreStep → E → Type 0) (state : E → EndState) (channels n : ℕ)
     (a : StreamEntry E) (store : E) (old new : List ℤ) → channels ≡ n
     → AddsStore moves state a.gains n a.picked a.store store old new
     → AddsEntry moves state channels a (record a { store = store }) old new
@@ -74,21 +75,7 @@ adds_picked moves state channels n a store old new is adds = record {
   words = adds.words;
   count_is = adds.count_is;
   takes = record {
-    same = record {
-      client = refl;
-      endpoint = refl;
-      kind = refl;
-      exclusive = refl;
-      event = refl;
-      channels = refl;
-      rate = refl;
-      buffer = refl;
-      period = refl;
-      room = refl;
-      latency = refl;
-      session = refl;
-      gains = refl;
-    };
+    same = same_but a store a.picked a.position a.offered a.ever a.after_gap;
     running = refl;
     gate = refl;
     picked = refl;

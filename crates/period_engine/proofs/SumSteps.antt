@@ -181,7 +181,7 @@ zero_within : (n k : ℕ) → (k < n) ⊎ (n ≤ k) → sum_at (replicate n (pos
 zero_within n k (inl lt) = get_or-replicate n k (pos 0) (pos 0) lt
 zero_within n k (inr le) = get_or_past (replicate n (pos 0)) k (pos 0) (omega (arith, length-replicate n (pos 0)))
 
--- each of so many sums that are 0
+-- each of a number of sums that are 0
 pub zero_at : (n k : ℕ) → sum_at (replicate n (pos 0)) k ≡ pos 0
 zero_at n k = zero_within n k (cases_lt k n)
 

@@ -4,8 +4,8 @@ use Rattle.std.proofs.Common.{List, [], ◌∷◌, length, refl, sym, ap, arith}
 use Rattle.std.specs.Prelude.{◌==◌, ◌&&◌, min}
 use Rattle.ca_stage.specs.Stage.{Stream, BufferData, is_open_gate, is_render, no_data}
 use Rattle.buffer_ring.specs.declared.step.Deed.TheVariants as deed
-use Rattle.buffer_ring.specs.declared.step.Step.{Step}
-use Rattle.buffer_ring.specs.declared.step.Step.TheVariants as step
+use Rattle.buffer_ring.specs.declared.step.StoreStep.{StoreStep}
+use Rattle.buffer_ring.specs.declared.step.StoreStep.TheVariants as step
 use Rattle.buffer_ring.specs.declared.step.EndState.{EndState}
 use Rattle.period_engine.specs.declared.entry.StreamEntry.{StreamEntry}
 use Rattle.period_engine.specs.Entries.{is_played, stream_with}
@@ -42,7 +42,7 @@ same_but a store picked position offered ever after_gap = record {
 }
 
 -- an entry whose stream stays as it is
-pub unmoved : {E : Type 0} (moves : E → List Step → E → Type 0) (f : Stream → Stream) (a : StreamEntry E)
+pub unmoved : {E : Type 0} (moves : E → List StoreStep → E → Type 0) (f : Stream → Stream) (a : StreamEntry E)
     → ((e : E) → moves e [] e) → ((d : BufferData) → f (stream_with d a) ≡ stream_with d a) → Turned moves f a a
 unmoved moves f a none stays = record {
   same = same_but a a.store a.picked a.position a.offered a.ever a.after_gap;
@@ -58,7 +58,7 @@ unmoved moves f a none stays = record {
 }
 
 -- an entry that is played, whose store was looked at: what is due is picked
-pub picks : {E : Type 0} (moves : E → List Step → E → Type 0) (state : E → EndState) (number p held n : ℕ)
+pub picks : {E : Type 0} (moves : E → List StoreStep → E → Type 0) (state : E → EndState) (number p held n : ℕ)
     (a : StreamEntry E) (store : E) → is_played number a ≡ true → n ≡ min held p
     → moves a.store (step.Acts held (state a.store).gate deed.Looks ∷ []) store
     → Turned moves (picks_on number p) a (record a { store = store; picked = n })

@@ -1,4 +1,4 @@
--- What the frames of streams add to the sums of a period, which stand frame by frame with a sum for each channel (this
+-- What the frames of streams add to the sums of a period, which go frame by frame, with a sum for each channel (this
 -- project's own).
 use Rattle.std.specs.Prelude.{
   ◌≡◌,
@@ -24,7 +24,7 @@ use Rattle.wave_format.specs.Frame.{sample_at}
 use Rattle.volume_stack.specs.Scaling.{unit_gain, scaled}
 use Rattle.volume_stack.specs.Sums.{sample_limit}
 use Rattle.buffer_ring.specs.declared.step.EndState.{EndState}
-use Rattle.buffer_ring.specs.declared.step.Step.{Step}
+use Rattle.buffer_ring.specs.declared.step.StoreStep.{StoreStep}
 use Rattle.buffer_ring.specs.Steps.{reads_from}
 use Rattle.period_engine.specs.declared.entry.StreamEntry.{StreamEntry}
 use Rattle.period_engine.specs.Sounds.{TakesSteps}
@@ -62,8 +62,8 @@ pub record AddsWords (gains : List ℕ) (channels : ℕ) (words : List ℕ) (old
   pub after : (k : ℕ) → channels * length words ≤ k → sum_at new k ≡ sum_at old k
   pub stay : StayNear old new
 
--- so many words of a store were read and added
-pub record AddsStore {E : Type 0} (moves : E → List Step → E → Type 0) (state : E → EndState) (gains : List ℕ)
+-- this many words of a store were read and added
+pub record AddsStore {E : Type 0} (moves : E → List StoreStep → E → Type 0) (state : E → EndState) (gains : List ℕ)
     (channels count : ℕ) (a b : E) (old new : List ℤ) : Type 0 where
   pub words : List ℕ
   pub count_is : length words ≡ count
@@ -72,7 +72,7 @@ pub record AddsStore {E : Type 0} (moves : E → List Step → E → Type 0) (st
   pub adds : AddsWords gains channels words old new
 
 -- what was picked of an entry was read and added, and the entry is the same otherwise
-pub record AddsEntry {E : Type 0} (moves : E → List Step → E → Type 0) (state : E → EndState) (channels : ℕ)
+pub record AddsEntry {E : Type 0} (moves : E → List StoreStep → E → Type 0) (state : E → EndState) (channels : ℕ)
     (a b : StreamEntry E) (old new : List ℤ) : Type 0 where
   pub words : List ℕ
   pub count_is : length words ≡ a.picked

@@ -1,4 +1,4 @@
--- Entries: the engine's ends of streams, and the streams of the stage that they stand for (this project's own).
+-- Entries: the engine's ends of streams, and the streams of the stage that they represent (this project's own).
 use Rattle.std.specs.Prelude.{◌≡◌, ℕ, ◌+◌, ◌≤◌, List, length, map, Bool, false, true}
 use Rattle.ca_base.specs.declared.limits.TheConstants.{CLIENTS, MAX_COUNT}
 use Rattle.ca_stage.specs.Stage.{Stream, BufferData, no_data}
@@ -7,7 +7,7 @@ use Rattle.ca_stage.specs.Order.{RisesFrom}
 use Rattle.buffer_ring.specs.declared.step.EndState.{EndState}
 use Rattle.period_engine.specs.declared.entry.StreamEntry.{StreamEntry}
 
--- the stream that an entry stands for, with these data of its client
+-- the stream that an entry represents, with these data of its client
 abbrev pub stream_with : {E : Type 0} → BufferData → StreamEntry E → Stream
 stream_with d e = record {
   client = e.client.0;
@@ -40,7 +40,7 @@ stream_of datas e = stream_with (datas e.client.0) e
 abbrev pub streams_of : {E : Type 0} → (ℕ → BufferData) → List (StreamEntry E) → List Stream
 streams_of datas entries = map (stream_of datas) entries
 
--- entries stand in rising order of their clients' numbers
+-- entries are in rising order of their clients' numbers
 abbrev pub AreInOrder : {E : Type 0} → List (StreamEntry E) → Type 0
 AreInOrder entries = RisesFrom 0 (map (λ e. e.client.0) entries)
 
@@ -80,8 +80,8 @@ is_recorded number e = is_recording number (stream_with no_data e)
 abbrev pub is_heard : {E : Type 0} → ℕ → StreamEntry E → Bool
 is_heard number e = is_hearing number (stream_with no_data e)
 
--- an entry that may be offered a packet of p frames: its packets have as many, of so many channels, and its counts have
--- room for them
+-- an entry that may be offered a packet of p frames: its packets have as many, of `channels` channels, and its counts
+-- have room for them
 pub record IsFeedable {E : Type 0} (channels p : ℕ) (e : StreamEntry E) : Type 0 where
   pub channels_are : e.channels ≡ channels
   pub period : e.period ≡ p

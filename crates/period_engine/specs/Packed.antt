@@ -9,7 +9,7 @@ packet_of channels [] = record { position = 0; follows_gap = false; frames = [] 
 packet_of channels (head ∷ words) =
     record { position = head / 2; follows_gap = head % 2 == 1; frames = frames_in channels words }
 
--- so many packets of a period of frames each, from the front of words
+-- this many packets of a period of frames each, from the front of words
 abbrev pub packets_from : ℕ → ℕ → ℕ → List ℕ → List Packet
 packets_from zero channels period words = []
 packets_from (suc count) channels period words =

@@ -7,7 +7,7 @@ use Rattle.volume_stack.specs.Scaling.{unit_gain}
 use Rattle.ca_stage.specs.Stage.{BufferData}
 use Rattle.ca_stage.specs.Moves.{Mixing}
 use Rattle.ca_stage.specs.Mix.{sound_bytes}
-use Rattle.buffer_ring.specs.declared.step.Step.{Step}
+use Rattle.buffer_ring.specs.declared.step.StoreStep.{StoreStep}
 use Rattle.period_engine.specs.declared.entry.StreamEntry.{StreamEntry}
 use Rattle.period_engine.specs.Entries.{streams_of}
 use Rattle.period_engine.specs.Agreement.{AllAgree, ArePacked, Layout, data_after}
@@ -25,7 +25,7 @@ pub record AreEnds (ends : List ℕ) : Type 0 where
   pub few : length ends ≤ 4
   pub within : All (λ gain. gain ≤ unit_gain) ends
 
--- scratch for a period: how many samples fit, how many frames a packet may have, and the bytes that stand there
+-- scratch for a period: how many samples fit, how many frames a packet may have, and the bytes that are there
 pub record BlockState : Type 0 where
   pub samples : ℕ
   pub frames : ℕ
@@ -36,13 +36,13 @@ pub record IsWholeBlock (sums bytes words : ℕ) : Type 0 where
   pub bytes_are : bytes ≡ 2 * sums
   pub some : 1 ≤ words
 
--- a block for so many frames of so many channels
+-- a block for this many frames of this many channels
 pub record IsBlockFor (frames channels : ℕ) (b : BlockState) : Type 0 where
   pub samples : b.samples ≡ frames * channels
   pub frames_are : b.frames ≡ frames
   pub bytes : length b.bytes ≡ 2 * (frames * channels)
 
--- and one that has room for a packet of so many frames
+-- and one that has room for a packet of this many frames
 pub record HasFeedRoom (channels frames : ℕ) (b : BlockState) : Type 0 where
   pub some : 1 ≤ channels
   pub few : channels ≤ 4
@@ -60,8 +60,8 @@ pub record MixesThese {E : Type 0} (m : Mixing) (number frames : ℕ) (ends : Li
   pub end_gains : (channel : ℕ) → channel < length ends → m.endpoint_gain channel ≡ slice_index ends channel
 
 -- an entry whose store took these steps, and nothing else
-pub record TakesSteps {E : Type 0} (moves : E → List Step → E → Type 0) (steps : List Step) (a b : StreamEntry E)
-    : Type 0 where
+pub record TakesSteps {E : Type 0} (moves : E → List StoreStep → E → Type 0) (steps : List StoreStep)
+    (a b : StreamEntry E) : Type 0 where
   pub same : IsSameEntry a b
   pub running : b.running ≡ a.running
   pub gate : b.gate ≡ a.gate
@@ -74,7 +74,7 @@ pub record TakesSteps {E : Type 0} (moves : E → List Step → E → Type 0) (s
   pub packs : (l : Layout) → ArePacked l steps
 
 -- entry by entry, each by its client's steps
-abbrev pub AllTakeSteps : {E : Type 0} → (E → List Step → E → Type 0) → (ℕ → List Step) → List (StreamEntry E)
+abbrev pub AllTakeSteps : {E : Type 0} → (E → List StoreStep → E → Type 0) → (ℕ → List StoreStep) → List (StreamEntry E)
     → List (StreamEntry E) → Type 0
 AllTakeSteps moves steps [] [] = Unit {0}
 AllTakeSteps moves steps (a ∷ xs) (b ∷ ys) = TakesSteps moves (steps a.client.0) a b × AllTakeSteps moves steps xs ys
@@ -83,10 +83,10 @@ AllTakeSteps moves steps (a ∷ xs) [] = ⊥
 
 -- A Sound: the stores were read; for all data that agree with what was read the data stay as they are, and the bytes
 -- offered to the device are the mix of the streams, by any mixing of these gains.
-pub record Sounds {E : Type 0} (moves : E → List Step → E → Type 0) (number frames : ℕ) (ends bytes : List ℕ)
+pub record Sounds {E : Type 0} (moves : E → List StoreStep → E → Type 0) (number frames : ℕ) (ends bytes : List ℕ)
     (whole : Bool) (old new : List (StreamEntry E)) (faults : ℕ) (told : Option (List DeviceLog)) (faults' : ℕ)
     (told' : Option (List DeviceLog)) : Type 0 where
-  pub steps : ℕ → List Step
+  pub steps : ℕ → List StoreStep
   pub made : AllTakeSteps moves steps old new
   pub mixed : (datas : ℕ → BufferData) (m : Mixing) → AllAgree steps datas old → MixesThese m number frames ends old →
       bytes ≡ sound_bytes m (streams_of datas old)

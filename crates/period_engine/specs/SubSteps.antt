@@ -4,7 +4,7 @@ use Rattle.std.specs.Prelude.{◌≡◌, ℕ, List, if◌then◌else◌}
 use Rattle.ca_stage.specs.Stage.{Stream, BufferData, no_data}
 use Rattle.ca_stage.specs.Moves.{StreamMove, picked, retired, moved}
 use Rattle.ca_stage.specs.Periods.{is_playing}
-use Rattle.buffer_ring.specs.declared.step.Step.{Step}
+use Rattle.buffer_ring.specs.declared.step.StoreStep.{StoreStep}
 use Rattle.period_engine.specs.declared.entry.StreamEntry.{StreamEntry}
 use Rattle.period_engine.specs.Entries.{stream_with}
 use Rattle.period_engine.specs.Agreement.{Agrees, ArePacked, data_after, layout_of}
@@ -27,10 +27,11 @@ pub record IsSameEntry {E : Type 0} (a b : StreamEntry E) : Type 0 where
 
 -- an entry went on as f moves its stream: by steps of its store, for all data that agree with them. Whether it runs,
 -- its gate, its position and what it was offered go as f moves them whatever the data are
-pub record Turned {E : Type 0} (moves : E → List Step → E → Type 0) (f : Stream → Stream) (a b : StreamEntry E) : Type 0
+pub record Turned {E : Type 0} (moves : E → List StoreStep → E → Type 0) (f : Stream → Stream) (a b : StreamEntry E)
+    : Type 0
   where
     pub same : IsSameEntry a b
-    pub steps : List Step
+    pub steps : List StoreStep
     pub made : moves a.store steps b.store
     pub packs : ArePacked (layout_of a) steps
     pub turns : (d : BufferData) → Agrees (layout_of a) steps d →

@@ -75,7 +75,7 @@ fn add_words<E: EngineSide>(
 }
 
 impl<E: EngineSide> StreamEntry<E> {
-    /// Adds the frames that were picked to the sums of a period of so many channels.
+    /// Adds the frames that were picked to the sums of a period of `channels` channels.
     fn add_picked(&mut self, channels: usize, sums: &mut [i32])
         requires some { 1 ≤ channels }
         requires few { channels ≤ 4 }
@@ -93,7 +93,7 @@ impl<E: EngineSide> StreamEntry<E> {
     }
 }
 
-/// Makes the sums those of all frames that were picked, for a period of so many channels.
+/// Makes the sums those of all frames that were picked, for a period of `channels` channels.
 pub fn add_all<E: EngineSide>(all: &mut [StreamEntry<E>], channels: usize, sums: &mut [i32])
     requires some { 1 ≤ channels }
     requires few { channels ≤ 4 }

@@ -25,8 +25,8 @@ fn read_bytes<D: Devices>(devices: &mut D, e: EndpointNo, bytes: &mut [u8]) -> R
     Ok(place)
 }
 
-/// Reads what an endpoint's device gives for `p` frames of so many channels into the front of the bytes, and answers
-/// how many whole ones came. Behind them there is silence: a part of a frame is given up.
+/// Reads what an endpoint's device gives for `p` frames of `channels` channels into the front of the bytes, and
+/// answers how many whole ones came. Behind them there is silence: a part of a frame is given up.
 pub fn read_frames<D: Devices>(
     devices: &mut D,
     e: EndpointNo,

@@ -33,7 +33,7 @@ pub struct StreamEntry<E> {
     /// The frames of packets offered since the last Reset, and of all that were ever offered.
     pub offered: u64,
     pub ever: u64,
-    /// Whether the last packet offered since the last Reset was lost, for want of room.
+    /// Whether the last packet offered since the last Reset was lost because there was no room.
     pub after_gap: bool,
     /// The gain of each channel, from 0 to 65536.
     pub gains: [u32; 4],

@@ -108,7 +108,7 @@ impl<E: EngineSide> StreamEntry<E> {
     }
 }
 
-/// Writes the words of `p` frames of so many channels behind the head of a packet.
+/// Writes the words of `p` frames of `channels` channels behind the head of a packet.
 fn write_frames(p: u32, channels: u16, bytes: &[u8], words: &mut [u64])
     requires some { 1 ≤ channels }
     requires few { channels ≤ 4 }
@@ -215,9 +215,9 @@ pub fn feed_loopback<E: EngineSide>(
     }
 }
 
-/// Reads what the device of endpoint `e` gives for a period of `p` frames of so many channels, and offers it to each
-/// stream that records the endpoint, as a packet: with silence behind it if the device has no more. Answers `p`, or 0
-/// if not one whole frame came, and no packet.
+/// Reads what the device of endpoint `e` gives for a period of `p` frames of `channels` channels, and offers it to
+/// each stream that records the endpoint, as a packet: with silence behind it if the device has no more. Answers
+/// `p`, or 0 if not one whole frame came, and no packet.
 pub fn feed_capture<E: EngineSide, D: Devices>(
     all: &mut [StreamEntry<E>],
     e: EndpointNo,

@@ -17,7 +17,7 @@ use ca_base::{EndpointNo, Failed};
 use device_io::Devices;
 
 /// Mixes what was picked of all entries: `size` sums from the front of the sums, and their bytes from the front of the
-/// bytes. What stands behind them stays.
+/// bytes. What is behind them stays.
 fn mix<E: EngineSide>(
     all: &mut [StreamEntry<E>],
     size: usize,

@@ -10,8 +10,8 @@ use ca_base::{Bytes, Hr};
 use call_wire::NOTICE_HEAD;
 use wave_format::Format;
 
-/// What a payload of notices has ahead of them, in bytes: how many event flags there are, how many notices were lost, and
-/// how many there are.
+/// What a payload of notices has ahead of them, in bytes: how many event flags there are, how many notices were lost,
+/// and how many there are.
 pub const NOTICES_HEAD: usize = 4 + 8 + 4;
 
 /// The longest notice in a payload, in bytes.

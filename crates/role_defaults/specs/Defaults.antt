@@ -1,5 +1,5 @@
--- The default endpoint of a flow and a role (IMMDeviceEnumerator::GetDefaultAudioEndpoint, ERole; what stands in for an
--- endpoint that isn't active is this project's own).
+-- The default endpoint of a flow and a role (IMMDeviceEnumerator::GetDefaultAudioEndpoint, ERole; what takes the place
+-- of an endpoint that isn't active is this project's own).
 use Rattle.std.specs.Prelude.{ℕ, ◌+◌, ◌*◌, ◌==◌, ◌&&◌, List, [], ◌∷◌, Bool, false, slice_index, slice_set}
 use Rattle.std.specs.Prelude.{Option, Some, None, Result, Ok, Err, if◌then◌else◌}
 use Rattle.std.specs.List.{find}

@@ -33,7 +33,7 @@ use Rattle.service_board.specs.Board.{state_of}
 use Rattle.service_board.specs.InOrder.{Belongs, InOrder}
 use Rattle.service_board.specs.Lookups.{Says}
 use Rattle.service_board.specs.declared.board.Board.{Board}
-use Rattle.service_board.proofs.Granting.{Grants}
+use Rattle.service_board.proofs.GrantedEvents.{Grants}
 use Rattle.service_board.proofs.LookingUp.{says_later}
 
 -- the rows behind those of the connection
@@ -139,9 +139,9 @@ module _ {D E : Type 0} (b : Board D E) (conn endpoint role : ℕ)
     passes = says datas tally;
     asks = refl;
     output = refl;
-    result-is = refl;
-    payload-is = refl;
-    after-is =
+    result_is = refl;
+    payload_is = refl;
+    after_is =
         ap (λ bk. state_of datas tally (record b { book = bk })) same
         ∙ ap (λ cs. record (state_of datas tally b) { clients = cs; clients_made = b.book.clients_made + 1 }) pushed;
   }

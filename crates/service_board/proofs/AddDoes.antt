@@ -18,7 +18,7 @@ use Rattle.ca_base.specs.declared.limits.TheConstants.{ENDPOINTS, MAX_COUNT}
 use Rattle.ca_base.specs.declared.values.TheConstants.{FLOW_CAPTURE}
 use Rattle.wave_format.specs.Format.{IsValid}
 use Rattle.buffer_ring.specs.declared.step.EndState.{EndState}
-use Rattle.buffer_ring.specs.declared.step.Step.{Step}
+use Rattle.buffer_ring.specs.declared.step.StoreStep.{StoreStep}
 use Rattle.ca_stage.specs.Stage.{BufferData, Playhead, no_data}
 use Rattle.ca_stage.specs.Moves.{added, after_moves, has_playhead, playhead_after, stream_after, with_added}
 use Rattle.ca_stage.specs.Order.{RisesFrom}
@@ -44,12 +44,12 @@ use Rattle.service_board.specs.InOrder.{IsOn, Belongs, InOrder, Seats, is_seat, 
 use Rattle.service_board.specs.Lookups.{Says}
 use Rattle.service_board.specs.declared.board.Board.{Board}
 use Rattle.service_board.specs.declared.board.Seat.{Seat}
-use Rattle.service_board.proofs.Doing.{add_none, made_still}
+use Rattle.service_board.proofs.PlainEvents.{add_none, made_still}
 use Rattle.service_board.proofs.Offering.{answers_granted_by}
 
 -- a board whose stores stay goes on as a plan says
 pub stays_does : {D E : Type 0} (faults : D → ℕ) (told : D → Option (List DeviceLog))
-    (moves : E → List Step → E → Type 0) (stays : (a : E) → moves a [] a) (b new : Board D E)
+    (moves : E → List StoreStep → E → Type 0) (stays : (a : E) → moves a [] a) (b new : Board D E)
     (entries : new.entries.items ≡ b.entries.items) (plan : State → Plan) (result : Hr) (payload : List ℕ) →
     ((datas : ℕ → BufferData) (tally : Tally) →
     AnswersBy (state_of datas tally b) (plan (state_of datas tally b)) result payload (state_of datas tally new)
@@ -164,7 +164,7 @@ module _ {D E : Type 0} (state : E → EndState) (b : Board D E) (order : InOrde
       recursion_from_All (λ (e : Endpoint). e.no.0 ≤ b.book.registry.last) b.book.registry.list order.book.added
 
   -- memory ran out
-  pub no_memory : (faults : D → ℕ) (told : D → Option (List DeviceLog)) (moves : E → List Step → E → Type 0)
+  pub no_memory : (faults : D → ℕ) (told : D → Option (List DeviceLog)) (moves : E → List StoreStep → E → Type 0)
       (stays : (a : E) → moves a [] a) →
       Does faults told moves None AnyData b b (λ st. add_plan st number flow format name) hr.E_OUTOFMEMORY []
   no_memory faults told moves stays =
@@ -214,7 +214,7 @@ module _ {D E : Type 0} (state : E → EndState) (b : Board D E) (order : InOrde
           ap₂ (λ hs ss. record { playheads = hs; streams = ss }) heads_are
           (sym (map_same (stream_after (added number)) (λ s. refl) (streams_of datas b.entries.items)))
 
-      pub add_does : (faults : D → ℕ) (told : D → Option (List DeviceLog)) (moves : E → List Step → E → Type 0)
+      pub add_does : (faults : D → ℕ) (told : D → Option (List DeviceLog)) (moves : E → List StoreStep → E → Type 0)
           (stays : (a : E) → moves a [] a) →
           Does faults told moves None AnyData b added_board (λ st. add_plan st number flow format name) hr.S_OK []
       add_does faults told moves stays =

@@ -5,8 +5,8 @@ use Rattle.std.proofs.Common.{refl, sym, ap, ap₂, ◌∙◌, subst, arith, eq-
 use Rattle.std.specs.List.{AllByRecursion, AllZip}
 use Rattle.std.proofs.lemmas.Bool.Decides.{nat_tests}
 use Rattle.std.proofs.lemmas.Option.{none-some}
-use Rattle.buffer_ring.specs.declared.step.Step.{Step}
-use Rattle.buffer_ring.specs.declared.step.Step.TheVariants as step
+use Rattle.buffer_ring.specs.declared.step.StoreStep.{StoreStep}
+use Rattle.buffer_ring.specs.declared.step.StoreStep.TheVariants as step
 use Rattle.ca_stage.specs.Stage.{Stream, BufferData, is_render}
 use Rattle.ca_stage.specs.Order.{RisesFrom}
 use Rattle.ca_stage.proofs.Lists.{all_weaker, all_both, chosen}
@@ -24,13 +24,13 @@ clients_of entries = map (λ e. e.client.0) entries
 
 -- ---- steps after steps
 
-pub data-append : (l : Layout) (s t : List Step) (d : BufferData) →
+pub data-append : (l : Layout) (s t : List StoreStep) (d : BufferData) →
     data_after l (s ++ t) d ≡ data_after l t (data_after l s d)
 data-append l [] t d = refl
 data-append l (step.Acts found gate deed ∷ s) t d = data-append l s t (data_on l deed d)
 data-append l (step.Reads place word ∷ s) t d = data-append l s t d
 
-pub agrees-append : (l : Layout) (s t : List Step) (d : BufferData) → Agrees l (s ++ t) d →
+pub agrees-append : (l : Layout) (s t : List StoreStep) (d : BufferData) → Agrees l (s ++ t) d →
     Agrees l s d × Agrees l t (data_after l s d)
 agrees-append l [] t d h = (tt, h)
 agrees-append l (step.Acts found gate deed ∷ s) t d h =
@@ -40,7 +40,7 @@ agrees-append l (step.Reads place word ∷ s) t d h =
     let rest = agrees-append l s t d h.1 in
     ((h.0, rest.0), rest.1)
 
-pub packed-append : (l : Layout) (s t : List Step) → ArePacked l s → ArePacked l t → ArePacked l (s ++ t)
+pub packed-append : (l : Layout) (s t : List StoreStep) → ArePacked l s → ArePacked l t → ArePacked l (s ++ t)
 packed-append l [] t h k = k
 packed-append l (step.Acts found gate deed ∷ s) t h k = (h.0, packed-append l s t h.1 k)
 packed-append l (step.Reads place word ∷ s) t h k = packed-append l s t h k
@@ -96,10 +96,10 @@ layout_found low (x ∷ xs) rises = (
 )
 
 -- what the data of an entry's client are after its steps
-abbrev pub AreAfter : {E : Type 0} → (ℕ → List Step) → (ℕ → BufferData) → (ℕ → BufferData) → StreamEntry E → Type 0
+abbrev pub AreAfter : {E : Type 0} → (ℕ → List StoreStep) → (ℕ → BufferData) → (ℕ → BufferData) → StreamEntry E → Type 0
 AreAfter steps datas datas' e = datas' e.client.0 ≡ data_after (layout_of e) (steps e.client.0) (datas e.client.0)
 
-pub are_after : {E : Type 0} (steps : ℕ → List Step) (xs : List (StreamEntry E)) (datas : ℕ → BufferData) →
+pub are_after : {E : Type 0} (steps : ℕ → List StoreStep) (xs : List (StreamEntry E)) (datas : ℕ → BufferData) →
     RisesFrom 0 (clients_of xs) → AllByRecursion (AreAfter steps datas (after_steps steps xs datas)) xs
 are_after steps xs datas rises =
     all_weaker (λ e. layout_at e.client.0 xs ≡ layout_of e) (AreAfter steps datas (after_steps steps xs datas))
@@ -107,11 +107,11 @@ are_after steps xs datas rises =
 
 -- ---- steps of clients that have an entry
 
-abbrev pub within : {E : Type 0} → List (StreamEntry E) → (ℕ → List Step) → ℕ → List Step
+abbrev pub within : {E : Type 0} → List (StreamEntry E) → (ℕ → List StoreStep) → ℕ → List StoreStep
 within [] s n = []
 within (x ∷ xs) s n = if x.client.0 == n then s n else within xs s n
 
-pub within_each : {E : Type 0} (xs : List (StreamEntry E)) (s : ℕ → List Step) →
+pub within_each : {E : Type 0} (xs : List (StreamEntry E)) (s : ℕ → List StoreStep) →
     AllByRecursion (λ e. within xs s e.client.0 ≡ s e.client.0) xs
 within_each [] s = tt
 within_each (x ∷ xs) s = (
@@ -122,7 +122,7 @@ within_each (x ∷ xs) s = (
       xs (within_each xs s),
 )
 
-pub within_none : {E : Type 0} (xs : List (StreamEntry E)) (s : ℕ → List Step) (n : ℕ) → store_at n xs ≡ None →
+pub within_none : {E : Type 0} (xs : List (StreamEntry E)) (s : ℕ → List StoreStep) (n : ℕ) → store_at n xs ≡ None →
     within xs s n ≡ []
 within_none [] s n h = refl
 within_none (x ∷ xs) s n h = by_test (x.client.0 == n) h (within_none xs s n)
@@ -134,16 +134,16 @@ within_none (x ∷ xs) s n h = by_test (x.client.0 == n) h (within_none xs s n)
 
 -- ---- entries that went on
 
-module _ {E : Type 0} (moves : E → List Step → E → Type 0) where
+module _ {E : Type 0} (moves : E → List StoreStep → E → Type 0) where
   -- the steps of each entry, by its client
   abbrev pub steps_of : (f : Stream → Stream) (xs ys : List (StreamEntry E)) → AllZip (Turned moves f) xs ys → ℕ →
-      List Step
+      List StoreStep
   steps_of f [] [] h n = []
   steps_of f (x ∷ xs) (y ∷ ys) h n = if x.client.0 == n then h.0.steps else steps_of f xs ys h.1 n
   steps_of f [] (y ∷ ys) h n = []
   steps_of f (x ∷ xs) [] h n = []
 
-  pub go_alike : (f : Stream → Stream) (s t : ℕ → List Step) (xs ys : List (StreamEntry E)) →
+  pub go_alike : (f : Stream → Stream) (s t : ℕ → List StoreStep) (xs ys : List (StreamEntry E)) →
       AllByRecursion (λ e. t e.client.0 ≡ s e.client.0) xs → AllGo moves f s xs ys → AllGo moves f t xs ys
   go_alike f s t [] [] same h = tt
   go_alike f s t (x ∷ xs) (y ∷ ys) same h =
@@ -151,7 +151,7 @@ module _ {E : Type 0} (moves : E → List Step → E → Type 0) where
   go_alike f s t [] (y ∷ ys) same h = absurd h
   go_alike f s t (x ∷ xs) [] same h = absurd h
 
-  turned_goes : (f : Stream → Stream) (a b : StreamEntry E) (t : Turned moves f a b) (ss : List Step) →
+  turned_goes : (f : Stream → Stream) (a b : StreamEntry E) (t : Turned moves f a b) (ss : List StoreStep) →
       ss ≡ t.steps → GoesBy moves f ss a b
   turned_goes f a b t ss e =
       subst (λ ss. GoesBy moves f ss a b) (sym e)
@@ -174,11 +174,11 @@ module _ {E : Type 0} (moves : E → List Step → E → Type 0) where
   all_turned f low (x ∷ xs) [] h rises = absurd h
 
   -- reads leave the data, and so the streams
-  same_stream : (d : BufferData) (a b : StreamEntry E) (ss : List Step) → TakesSteps moves ss a b →
+  same_stream : (d : BufferData) (a b : StreamEntry E) (ss : List StoreStep) → TakesSteps moves ss a b →
       stream_with d a ≡ stream_with d b
   same_stream d a b ss h = let same = h.same in cc
 
-  pub all_read : (steps : ℕ → List Step) (xs ys : List (StreamEntry E)) →
+  pub all_read : (steps : ℕ → List StoreStep) (xs ys : List (StreamEntry E)) →
       ((d : BufferData) (client : ℕ) (l : Layout) → data_after l (steps client) d ≡ d) →
       AllTakeSteps moves steps xs ys → AllGo moves (λ s. s) steps xs ys
   all_read steps [] [] reads h = tt
@@ -196,7 +196,7 @@ module _ {E : Type 0} (moves : E → List Step → E → Type 0) where
   all_read steps (x ∷ xs) [] reads h = absurd h
 
   -- one list of steps after another
-  one_after : (f g : Stream → Stream) (s t : List Step) (a b c : StreamEntry E) →
+  one_after : (f g : Stream → Stream) (s t : List StoreStep) (a b c : StreamEntry E) →
       (moves a.store s b.store → moves b.store t c.store → moves a.store (s ++ t) c.store) →
       GoesBy moves f s a b → GoesBy moves g t b c → GoesBy moves (λ x. g (f x)) (s ++ t) a c
   one_after f g s t a b c joins h k =
@@ -214,8 +214,8 @@ module _ {E : Type 0} (moves : E → List Step → E → Type 0) where
             ∙ ap (λ d'. stream_with d' c) (sym (data-append l s t d));
       }
 
-  module _ (joins : (a b c : E) (s t : List Step) → moves a s b → moves b t c → moves a (s ++ t) c) where
-    pub all_after : (f g : Stream → Stream) (s t : ℕ → List Step) (xs ys zs : List (StreamEntry E)) →
+  module _ (joins : (a b c : E) (s t : List StoreStep) → moves a s b → moves b t c → moves a (s ++ t) c) where
+    pub all_after : (f g : Stream → Stream) (s t : ℕ → List StoreStep) (xs ys zs : List (StreamEntry E)) →
         AllGo moves f s xs ys → AllGo moves g t ys zs → AllGo moves (λ x. g (f x)) (λ n. s n ++ t n) xs zs
     all_after f g s t [] [] [] h k = tt
     all_after f g s t (x ∷ xs) (y ∷ ys) (z ∷ zs) h k = (
@@ -230,8 +230,8 @@ module _ {E : Type 0} (moves : E → List Step → E → Type 0) where
     all_after f g s t (x ∷ xs) (y ∷ ys) [] h k = absurd k
 
   -- the clients stay
-  pub clients_stay : (f : Stream → Stream) (s : ℕ → List Step) (xs ys : List (StreamEntry E)) → AllGo moves f s xs ys →
-      clients_of ys ≡ clients_of xs
+  pub clients_stay : (f : Stream → Stream) (s : ℕ → List StoreStep) (xs ys : List (StreamEntry E)) →
+      AllGo moves f s xs ys → clients_of ys ≡ clients_of xs
   clients_stay f s [] [] h = refl
   clients_stay f s (x ∷ xs) (y ∷ ys) h =
       ap₂ (λ n ns. n ∷ ns) (ap (λ c. c.0) h.0.same.client) (clients_stay f s xs ys h.1)
@@ -239,7 +239,7 @@ module _ {E : Type 0} (moves : E → List Step → E → Type 0) where
   clients_stay f s (x ∷ xs) [] h = absurd h
 
   -- the streams after the steps
-  pub streams_went : (f : Stream → Stream) (s : ℕ → List Step) (datas datas' : ℕ → BufferData)
+  pub streams_went : (f : Stream → Stream) (s : ℕ → List StoreStep) (datas datas' : ℕ → BufferData)
       (xs ys : List (StreamEntry E)) → AllGo moves f s xs ys → AllAgree s datas xs →
       AllByRecursion (AreAfter s datas datas') xs → map f (streams_of datas xs) ≡ streams_of datas' ys
   streams_went f s datas datas' [] [] h agree after = refl
@@ -252,7 +252,7 @@ module _ {E : Type 0} (moves : E → List Step → E → Type 0) where
   streams_went f s datas datas' (x ∷ xs) [] h agree after = absurd h
 
   -- data that agree with one list of steps after another
-  pub agree_first : (s t : ℕ → List Step) (datas : ℕ → BufferData) (xs : List (StreamEntry E)) →
+  pub agree_first : (s t : ℕ → List StoreStep) (datas : ℕ → BufferData) (xs : List (StreamEntry E)) →
       AllAgree (λ n. s n ++ t n) datas xs → AllAgree s datas xs
   agree_first s t datas [] h = tt
   agree_first s t datas (x ∷ xs) h = (
@@ -260,7 +260,7 @@ module _ {E : Type 0} (moves : E → List Step → E → Type 0) where
     agree_first s t datas xs h.1,
   )
 
-  pub agree_then : (f : Stream → Stream) (s t : ℕ → List Step) (datas datas' : ℕ → BufferData)
+  pub agree_then : (f : Stream → Stream) (s t : ℕ → List StoreStep) (datas datas' : ℕ → BufferData)
       (xs ys : List (StreamEntry E)) → AllGo moves f s xs ys → AllByRecursion (AreAfter s datas datas') xs →
       AllAgree (λ n. s n ++ t n) datas xs → AllAgree t datas' ys
   agree_then f s t datas datas' [] [] h after agree = tt
@@ -278,7 +278,7 @@ module _ {E : Type 0} (moves : E → List Step → E → Type 0) where
   agree_then f s t datas datas' (x ∷ xs) [] h after agree = absurd h
 
   -- by client: its store took its steps
-  pub all_made : (f : Stream → Stream) (s : ℕ → List Step) (given : Option E) (xs ys : List (StreamEntry E)) →
+  pub all_made : (f : Stream → Stream) (s : ℕ → List StoreStep) (given : Option E) (xs ys : List (StreamEntry E)) →
       AllGo moves f s xs ys → (n : ℕ) → (store_at n xs ≡ None → s n ≡ []) →
       Made moves given (s n) (store_at n xs) (store_at n ys)
   all_made f s given [] [] h n none = none refl
@@ -295,7 +295,7 @@ module _ {E : Type 0} (moves : E → List Step → E → Type 0) where
   all_made f s given (x ∷ xs) [] h n none = absurd h
 
 -- and its steps took whole packets
-pub all_packed : {E : Type 0} (moves : E → List Step → E → Type 0) (f : Stream → Stream) (s : ℕ → List Step)
+pub all_packed : {E : Type 0} (moves : E → List StoreStep → E → Type 0) (f : Stream → Stream) (s : ℕ → List StoreStep)
     (xs ys : List (StreamEntry E)) → AllGo moves f s xs ys → (n : ℕ) → (store_at n xs ≡ None → s n ≡ []) →
     ArePacked (layout_at n xs) (s n)
 all_packed moves f s [] [] h n none = subst (ArePacked no_layout) (sym (none refl)) tt
@@ -310,7 +310,7 @@ all_packed moves f s (x ∷ xs) (y ∷ ys) h n none =
 all_packed moves f s [] (y ∷ ys) h n none = absurd h
 all_packed moves f s (x ∷ xs) [] h n none = absurd h
 
-pub agree_alike : {E : Type 0} (s t : ℕ → List Step) (datas : ℕ → BufferData) (xs : List (StreamEntry E)) →
+pub agree_alike : {E : Type 0} (s t : ℕ → List StoreStep) (datas : ℕ → BufferData) (xs : List (StreamEntry E)) →
     AllByRecursion (λ e. t e.client.0 ≡ s e.client.0) xs → AllAgree t datas xs → AllAgree s datas xs
 agree_alike s t datas [] same h = tt
 agree_alike s t datas (x ∷ xs) same h =

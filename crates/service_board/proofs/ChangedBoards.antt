@@ -1,6 +1,7 @@
 -- A board one of whose endpoints was changed, and lost its streams, it may be.
 use Rattle.std.proofs.Common.{◌≡◌, ℕ, zero, suc, ◌<◌, ◌≤◌, ◌==◌, List, [], ◌∷◌, map, Bool, true, false, Some}
-use Rattle.std.proofs.Common.{refl, sym, ap, ap₂, ◌∙◌, subst, arith, eqb-true, eq-eqb, if◌then◌else◌, slice_get, slice_set}
+use Rattle.std.proofs.Common.{refl, sym, ap, ap₂, ◌∙◌, subst, arith, eqb-true, eq-eqb, if◌then◌else◌, slice_get}
+use Rattle.std.proofs.Common.{slice_set}
 use Rattle.std.specs.Global.{Vec}
 use Rattle.std.specs.List.{AllZip, find}
 use Rattle.std.specs.Option.{option_map}
@@ -11,7 +12,7 @@ use Rattle.ca_base.specs.declared.ids.Reason.{Reason}
 use Rattle.ca_base.specs.declared.limits.TheConstants.{ENDPOINTS, SHARED_PERIOD}
 use Rattle.wave_format.specs.Format.{frames_of_time}
 use Rattle.buffer_ring.specs.declared.step.EndState.{EndState}
-use Rattle.buffer_ring.specs.declared.step.Step.{Step}
+use Rattle.buffer_ring.specs.declared.step.StoreStep.{StoreStep}
 use Rattle.ca_stage.specs.Stage.{BufferData}
 use Rattle.ca_stage.specs.Order.{RisesFrom}
 use Rattle.ca_stage.specs.Tally.{Tally, tally_after}
@@ -103,7 +104,7 @@ zip_replaced number low at f (t ∷ seats) [] s e rises here is fits h = absurd 
 
 -- ---- the board
 
-module _ {D E : Type 0} (moves : E → List Step → E → Type 0) (state : E → EndState) (b : Board D E)
+module _ {D E : Type 0} (moves : E → List StoreStep → E → Type 0) (state : E → EndState) (b : Board D E)
     (order : InOrder state b) (lost : Bool) (reason : Reason) (number : ℕ) (entries : Vec (StreamEntry E))
     (loses : Disconnects moves state lost reason (Some number) b.entries entries) (f : Endpoint → Endpoint)
     (registry : EndpointList) (is : registry ≡ with_changed number f b.book.registry) (seats : Vec Seat) where
@@ -127,7 +128,7 @@ module _ {D E : Type 0} (moves : E → List Step → E → Type 0) (state : E �
         result = refl;
         payload = refl;
         output = refl;
-        after-is =
+        after_is =
             ap (λ (r : EndpointList). book_state (record (b.book) { registry = r })
             (stage_after moves state b order lost reason (Some number) entries loses seats.items datas) after) is
             ∙ ap (λ stage. book_state

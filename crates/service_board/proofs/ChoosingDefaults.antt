@@ -8,7 +8,7 @@ use Rattle.ca_base.specs.declared.codes.Hr.{Hr}
 use Rattle.ca_base.specs.declared.codes.TheConstants.Hr as hr
 use Rattle.ca_base.specs.declared.values.TheConstants.{FLOW_CAPTURE, ROLE_COMMUNICATIONS}
 use Rattle.ca_base.specs.Rows.{Row}
-use Rattle.buffer_ring.specs.declared.step.Step.{Step}
+use Rattle.buffer_ring.specs.declared.step.StoreStep.{StoreStep}
 use Rattle.device_registry.specs.declared.endpoint.Endpoint.{Endpoint}
 use Rattle.device_registry.specs.Endpoints.{flow_number, is_endpoint}
 use Rattle.role_defaults.specs.declared.choices.Choices.{Choices}
@@ -21,7 +21,7 @@ use Rattle.service_board.specs.Does.{AnyData, Does}
 use Rattle.service_board.specs.Lookups.{Says}
 use Rattle.service_board.specs.NamedEndpoints.{FindsNamed}
 use Rattle.service_board.specs.declared.board.Board.{Board}
-use Rattle.service_board.proofs.Granting.{book_does}
+use Rattle.service_board.proofs.GrantedEvents.{book_does}
 use Rattle.service_board.proofs.LookingUp.{says_front}
 use Rattle.service_board.proofs.NamedRows.{own_says}
 
@@ -75,7 +75,7 @@ module _ {D E : Type 0} (b : Board D E) (flow role number at : ℕ) (found : Fin
       abbrev chosen_board : Board D E
       chosen_board = record b { book = record (b.book) { choices = choices } }
 
-      pub choice_does : (faults : D → ℕ) (told : D → Option (List DeviceLog)) (moves : E → List Step → E → Type 0)
+      pub choice_does : (faults : D → ℕ) (told : D → Option (List DeviceLog)) (moves : E → List StoreStep → E → Type 0)
           (stays : (a : E) → moves a [] a) →
           Does faults told moves None AnyData b chosen_board (λ st. set_default_plan st flow role number) hr.S_OK []
       choice_does faults told moves stays =
@@ -85,9 +85,9 @@ module _ {D E : Type 0} (b : Board D E) (flow role number at : ℕ) (found : Fin
             passes = choice_passes datas tally;
             asks = refl;
             output = refl;
-            result-is = refl;
-            payload-is = refl;
-            after-is =
+            result_is = refl;
+            payload_is = refl;
+            after_is =
                 ap (λ (c : Choices). record (state_of datas tally b) { choices = c })
                 (chosen
                 ∙ ap (λ k. with_choice k role number b.book.choices) (right_flow flow role e right));

@@ -2,11 +2,32 @@
 use Rattle.std.proofs.Common.{◌≡◌, ℕ, ◌&&◌, List, Bool, true, false, Option, Some, refl}
 use Rattle.std.specs.List.{All}
 use Rattle.std.proofs.lemmas.Bool.{true≢false}
+use Rattle.ca_base.specs.declared.ids.Gate.{Gate}
 use Rattle.buffer_ring.specs.declared.step.EndState.{EndState}
 use Rattle.ca_stage.specs.Stage.{is_open_gate}
 use Rattle.period_engine.specs.declared.entry.StreamEntry.{StreamEntry}
 use Rattle.period_engine.specs.Entries.{IsPicked, IsRested}
+use Rattle.period_engine.specs.SubSteps.{IsSameEntry}
 use Rattle.service_board.specs.Closing.{IsClosable}
+
+-- an entry of which only the store and what Start, Stop and a close set may have changed
+pub same_but_running : {E : Type 0} (a : StreamEntry E) (store : E) (gate : Gate) (running : Bool) (picked : ℕ) →
+    IsSameEntry a (record a { store = store; gate = gate; running = running; picked = picked })
+same_but_running a store gate running picked = record {
+  client = refl;
+  endpoint = refl;
+  kind = refl;
+  exclusive = refl;
+  event = refl;
+  channels = refl;
+  rate = refl;
+  buffer = refl;
+  period = refl;
+  room = refl;
+  latency = refl;
+  session = refl;
+  gains = refl;
+}
 
 not_played : (here opens runs : Bool) → (here && opens) ≡ false → (here && (opens && runs)) ≡ false
 not_played true true runs h = absurd (true≢false h)

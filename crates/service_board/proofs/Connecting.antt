@@ -30,7 +30,7 @@ use Rattle.service_board.specs.Board.{state_of}
 use Rattle.service_board.specs.InOrder.{Belongs, InOrder}
 use Rattle.service_board.specs.Lookups.{Says}
 use Rattle.service_board.specs.declared.board.Board.{Board}
-use Rattle.service_board.proofs.Granting.{Grants}
+use Rattle.service_board.proofs.GrantedEvents.{Grants}
 
 -- ---- the numbers of connections
 
@@ -171,9 +171,9 @@ module _ {D E : Type 0} (b : Board D E) (conn process : ℕ) (name : List ℕ)
     passes = says datas tally;
     asks = refl;
     output = refl;
-    result-is = refl;
-    payload-is = refl;
-    after-is =
+    result_is = refl;
+    payload_is = refl;
+    after_is =
         ap (λ bk. state_of datas tally (record b { book = bk })) same
         ∙ ap (λ cs. record (state_of datas tally b) { connections = cs }) pushed;
   }
@@ -239,8 +239,8 @@ module _ {D E : Type 0} (b : Board D E) (conn process : ℕ) (name : List ℕ)
       order = order.order;
       rested = order.rested;
       belong =
-          All-weaker (Belongs b.book b.seats.items) (Belongs with_connection b.seats.items) still_belongs b.entries.items
-          order.belong;
+          All-weaker (Belongs b.book b.seats.items) (Belongs with_connection b.seats.items) still_belongs
+          b.entries.items order.belong;
       seats = order.seats;
       book = opened_book;
       room = order.room;

@@ -12,7 +12,7 @@ use Rattle.ca_base.specs.declared.ids.SessionNo.{SessionNo}
 use Rattle.ca_base.specs.declared.limits.TheConstants.{CLIENTS, ENDPOINTS}
 use Rattle.volume_stack.specs.Scaling.{unit_gain}
 use Rattle.buffer_ring.specs.declared.step.EndState.{EndState}
-use Rattle.buffer_ring.specs.declared.step.Step.{Step}
+use Rattle.buffer_ring.specs.declared.step.StoreStep.{StoreStep}
 use Rattle.ca_stage.specs.Stage.{Stream, is_open_gate, no_data}
 use Rattle.ca_stage.specs.Moves.{closed, moved}
 use Rattle.ca_stage.specs.Order.{RisesFrom}
@@ -60,7 +60,7 @@ lost_within : (scope : Option ℕ) (s : Stream) → is_lost true scope s.endpoin
 lost_within None s = refl
 lost_within (Some number) s = refl
 
-module _ {E : Type 0} (moves : E → List Step → E → Type 0) where
+module _ {E : Type 0} (moves : E → List StoreStep → E → Type 0) where
   still_open : (lost : Bool) (reason : Reason) (scope : Option ℕ) (a b : StreamEntry E) →
       Turned moves (closes_if lost reason scope) a b → b.gate ≡ gate.Open →
       (a.gate ≡ gate.Open) × (is_lost lost scope a.endpoint.0 ≡ false)
@@ -209,7 +209,7 @@ other_book book registry choices is_shut endpoints added h = record {
 }
 
 -- nothing is closed
-pub none_lost : {E : Type 0} (moves : E → List Step → E → Type 0) (stays : (a : E) → moves a [] a)
+pub none_lost : {E : Type 0} (moves : E → List StoreStep → E → Type 0) (stays : (a : E) → moves a [] a)
     (state : E → EndState) (reason : Reason) (scope : Option ℕ) (entries : Vec (StreamEntry E)) →
     All (IsRested state) entries.items → Disconnects moves state false reason scope entries entries
 none_lost {E} moves stays state reason scope entries rested =

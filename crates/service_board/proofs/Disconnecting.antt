@@ -7,7 +7,7 @@ use Rattle.device_io.specs.DeviceLog.{DeviceLog}
 use Rattle.ca_base.specs.declared.codes.TheConstants.Hr as hr
 use Rattle.ca_base.specs.declared.ids.Reason.{Reason}
 use Rattle.buffer_ring.specs.declared.step.EndState.{EndState}
-use Rattle.buffer_ring.specs.declared.step.Step.{Step}
+use Rattle.buffer_ring.specs.declared.step.StoreStep.{StoreStep}
 use Rattle.ca_stage.specs.Stage.{BufferData, Stage, Stream, is_open}
 use Rattle.ca_stage.specs.Moves.{Move, after_moves, closed}
 use Rattle.ca_stage.specs.Order.{AreDistinct, RisesFrom, clients}
@@ -55,15 +55,15 @@ pub record IsGranted (outcome : Outcome) (after : State) : Type 0 where
   pub result : hr.S_OK ≡ outcome.result
   pub payload : [] ≡ outcome.payload
   pub output : outcome.output ≡ []
-  pub after-is : after ≡ outcome.after
+  pub after_is : after ≡ outcome.after
 
-module _ {D E : Type 0} (moves : E → List Step → E → Type 0) (state : E → EndState) (b : Board D E)
+module _ {D E : Type 0} (moves : E → List StoreStep → E → Type 0) (state : E → EndState) (b : Board D E)
     (order : InOrder state b) (lost : Bool) (reason : Reason) (scope : Option ℕ) (entries : Vec (StreamEntry E))
     (loses : Disconnects moves state lost reason scope b.entries entries) where
-  abbrev turned_steps : ℕ → List Step
+  abbrev turned_steps : ℕ → List StoreStep
   turned_steps = steps_of moves (closes_if lost reason scope) b.entries.items entries.items loses.turned
 
-  abbrev close_steps : ℕ → List Step
+  abbrev close_steps : ℕ → List StoreStep
   close_steps = within b.entries.items turned_steps
 
   went : AllGo moves (closes_if lost reason scope) close_steps b.entries.items entries.items
@@ -145,7 +145,7 @@ module _ {D E : Type 0} (moves : E → List Step → E → Type 0) (state : E �
                 (asks datas tally) granted.result granted.payload
                 (ap (λ ss. book_state book (record { playheads = map playhead_of seats.items; streams = ss }) after)
                 (streams_are datas agree)
-                ∙ granted.after-is)
+                ∙ granted.after_is)
                 (subst (λ ps. Passes (outside faults told b.devices) ps given (outside faults told b.devices))
                 (sym granted.output) (passes (outside faults told b.devices)));
           };

@@ -4,7 +4,7 @@ use Rattle.std.proofs.lemmas.Option.{get_or_from_slice_get}
 use Rattle.device_io.specs.DeviceLog.{DeviceLog}
 use Rattle.ca_base.specs.declared.codes.Hr.{Hr}
 use Rattle.ca_base.specs.Rows.{Row}
-use Rattle.buffer_ring.specs.declared.step.Step.{Step}
+use Rattle.buffer_ring.specs.declared.step.StoreStep.{StoreStep}
 use Rattle.ca_stage.specs.Stage.{BufferData}
 use Rattle.ca_stage.specs.Tally.{Tally}
 use Rattle.device_registry.specs.declared.endpoint.Endpoint.{Endpoint}
@@ -17,7 +17,7 @@ use Rattle.service_board.specs.Board.{state_of}
 use Rattle.service_board.specs.Does.{Does}
 use Rattle.service_board.specs.Lookups.{FindsEndpoint, Says}
 use Rattle.service_board.specs.declared.board.Board.{Board}
-use Rattle.service_board.proofs.Granting.{book_does}
+use Rattle.service_board.proofs.GrantedEvents.{book_does}
 use Rattle.service_board.proofs.StreamRows.{grants_outcome}
 
 -- an outcome that changes nothing
@@ -26,7 +26,7 @@ told st code payload = record { result = code; payload = payload; moves = []; ou
 
 -- a call that asks nothing tells
 pub plain_tells : {D E : Type 0} (faults : D → ℕ) (log : D → Option (List DeviceLog))
-    (moves : E → List Step → E → Type 0) (given : Option E) (known : (ℕ → BufferData) → Type 0)
+    (moves : E → List StoreStep → E → Type 0) (given : Option E) (known : (ℕ → BufferData) → Type 0)
     (stays : (a : E) → moves a [] a) (b : Board D E) (rows : State → List (Row Hr)) (outcome : State → Outcome)
     (code : Hr) (payload : List ℕ) → Says b rows None →
     ((datas : ℕ → BufferData) (tally : Tally) →

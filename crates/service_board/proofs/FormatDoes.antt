@@ -17,7 +17,7 @@ use Rattle.wave_format.specs.declared.format.FormatFault.{FormatFault}
 use Rattle.wave_format.specs.Format.{format_at, spelled}
 use Rattle.wave_format.proofs.FormatLaws.{read-valid}
 use Rattle.buffer_ring.specs.declared.step.EndState.{EndState}
-use Rattle.buffer_ring.specs.declared.step.Step.{Step}
+use Rattle.buffer_ring.specs.declared.step.StoreStep.{StoreStep}
 use Rattle.ca_stage.specs.Stage.{Playhead}
 use Rattle.ca_stage.specs.Fates.{place_of}
 use Rattle.device_registry.specs.declared.endpoint.Endpoint.{Endpoint}
@@ -46,7 +46,7 @@ use Rattle.service_board.proofs.AddDoes.{seat_made, stays_does}
 use Rattle.service_board.proofs.AddRows.{faulty, read_is}
 use Rattle.service_board.proofs.ChangedBoards.{changed_alike, changed_granted, changed_order, zip_replaced}
 use Rattle.service_board.proofs.Disconnecting.{disconnects_does}
-use Rattle.service_board.proofs.Doing.{add_none}
+use Rattle.service_board.proofs.PlainEvents.{add_none}
 use Rattle.service_board.proofs.DuePeriods.{SeatAt, next_by_heads, seat_at}
 use Rattle.service_board.proofs.Memory.{answers_out_of_memory}
 use Rattle.service_board.proofs.NamedDoes.{granted_named}
@@ -78,7 +78,8 @@ module _ {D E : Type 0} (b : Board D E) (number : ℕ) (bytes : List ℕ) where
 
     -- memory ran out
     pub format_no_memory : (read : wave.Format) → format_at bytes ≡ Ok read → (faults : D → ℕ)
-        (told : D → Option (List DeviceLog)) (moves : E → List Step → E → Type 0) (stays : (a : E) → moves a [] a) →
+        (told : D → Option (List DeviceLog)) (moves : E → List StoreStep → E → Type 0)
+        (stays : (a : E) → moves a [] a) →
         Does faults told moves None AnyData b b (λ st. set_format_plan st number bytes) hr.E_OUTOFMEMORY []
     format_no_memory read spells faults told moves stays =
         stays_does faults told moves stays b b refl (λ st. set_format_plan st number bytes) hr.E_OUTOFMEMORY []
@@ -111,7 +112,7 @@ module _ {D E : Type 0} (b : Board D E) (number at : ℕ) (bytes : List ℕ) (fo
   pub loses_is : (lost : Bool) → lost ≡ not (matches found.endpoint.format read) → lost ≡ loses_streams
   loses_is lost e = e ∙ ap (λ f. not (matches found.endpoint.format f)) read_spelled
 
-  module _ (moves : E → List Step → E → Type 0) (state : E → EndState) (order : InOrder state b)
+  module _ (moves : E → List StoreStep → E → Type 0) (state : E → EndState) (order : InOrder state b)
       (entries : Vec (StreamEntry E))
       (loses : Disconnects moves state loses_streams Format (Some number) b.entries entries) (registry : EndpointList)
       (replaces : registry ≡ with_changed number (replaced_by read_endpoint) b.book.registry) (seat : Seat)
@@ -167,7 +168,7 @@ module _ {D E : Type 0} (b : Board D E) (number at : ℕ) (bytes : List ℕ) (fo
           (seat_made new_seat read_endpoint (ap (λ (t : Seat). t.endpoint.0) (sym seat_is) ∙ its_seat.fits.number)
           (subst (λ (t : Seat). t.next ≤ MAX_COUNT) seat_is its_seat.fits.next) size (read-valid bytes read spells))
 
-      -- where the formats match, streams keep their channels and their period
+      -- if the formats match, streams keep their channels and their period
       keeps_channels : (e : Endpoint) → find (is_endpoint number) b.book.registry.list ≡ Some e →
           loses_streams ≡ false → (with_format bytes e).format.channels ≡ e.format.channels
       keeps_channels e there kept =

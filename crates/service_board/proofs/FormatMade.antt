@@ -10,7 +10,7 @@ use Rattle.wave_format.specs.declared.format.Format as wave
 use Rattle.wave_format.specs.Format.{IsValid, format_at}
 use Rattle.wave_format.proofs.FormatLaws.{read-valid}
 use Rattle.buffer_ring.specs.declared.step.EndState.{EndState}
-use Rattle.buffer_ring.specs.declared.step.Step.{Step}
+use Rattle.buffer_ring.specs.declared.step.StoreStep.{StoreStep}
 use Rattle.device_registry.specs.declared.endpoint.Endpoint.{Endpoint}
 use Rattle.device_registry.specs.Changes.{with_changed}
 use Rattle.device_registry.specs.Endpoints.{EndpointList, endpoint_at, replaced_by}
@@ -75,7 +75,7 @@ module _ {D E : Type 0} (b : Board D E) (number at : ℕ) (bytes : List ℕ) (li
   size_by frames block frames_are size =
       subst (λ n. IsBlockFor n read.channels block) (frames_are ∙ ap period_frames made_is) size
 
-  loses_by : (moves : E → List Step → E → Type 0) (state : E → EndState) (entries : Vec (StreamEntry E))
+  loses_by : (moves : E → List StoreStep → E → Type 0) (state : E → EndState) (entries : Vec (StreamEntry E))
       (matched : Bool) → matched ≡ matches old.format read →
       Disconnects moves state (not matched) Format (Some number) b.entries entries →
       Disconnects moves state (loses_streams b number at bytes m.found read m.spells) Format (Some number) b.entries
@@ -87,7 +87,7 @@ module _ {D E : Type 0} (b : Board D E) (number at : ℕ) (bytes : List ℕ) (li
       loses
 
   -- the board after it, with the streams closed if they are lost
-  module _ (moves : E → List Step → E → Type 0) (state : E → EndState) (order : InOrder state b)
+  module _ (moves : E → List StoreStep → E → Type 0) (state : E → EndState) (order : InOrder state b)
       (entries : Vec (StreamEntry E)) (matched : Bool) (matched_is : matched ≡ matches old.format read)
       (loses : Disconnects moves state (not matched) Format (Some number) b.entries entries) (registry : EndpointList)
       (now : registry ≡ with_changed made.no.0 (replaced_by made) b.book.registry) (seat : Seat)

@@ -8,7 +8,7 @@ use Rattle.ca_base.specs.declared.codes.Hr.{Hr}
 use Rattle.ca_base.specs.declared.codes.TheConstants.Hr as hr
 use Rattle.ca_base.specs.declared.values.TheConstants.{SHARE_EXCLUSIVE}
 use Rattle.ca_base.specs.Rows.{Row}
-use Rattle.buffer_ring.specs.declared.step.Step.{Step}
+use Rattle.buffer_ring.specs.declared.step.StoreStep.{StoreStep}
 use Rattle.wave_format.specs.Format.{spelled}
 use Rattle.device_registry.specs.declared.endpoint.Endpoint.{Endpoint}
 use Rattle.ca_machine.specs.Plan.{answered}
@@ -25,7 +25,7 @@ use Rattle.service_board.specs.declared.board.Board.{Board}
 use Rattle.reply_payload.specs.declared.payload.Payload.{Payload}
 use Rattle.reply_payload.specs.declared.payload.Payload.TheVariants as payload
 use Rattle.service_book.proofs.Rows.{row_holds, row_passes}
-use Rattle.service_board.proofs.Doing.{refused_does}
+use Rattle.service_board.proofs.PlainEvents.{refused_does}
 use Rattle.service_board.proofs.EndpointCalls.{endpoint_read, endpoint_there, plain_tells, told}
 use Rattle.service_board.proofs.LookingUp.{says_front, says_later}
 
@@ -90,7 +90,7 @@ module _ {D E : Type 0} (b : Board D E) (conn client share : ℕ) (bytes : List 
           (λ datas tally. ap (λ v. if v then Some hr.E_INVALIDARG else None) e)
 
 -- the answer is that of the endpoint's format
-module _ {D E : Type 0} (faults : D → ℕ) (log : D → Option (List DeviceLog)) (moves : E → List Step → E → Type 0)
+module _ {D E : Type 0} (faults : D → ℕ) (log : D → Option (List DeviceLog)) (moves : E → List StoreStep → E → Type 0)
     (stays : (a : E) → moves a [] a) (b : Board D E) (conn client share : ℕ) (bytes : List ℕ)
     (connected : Says b (control_rows conn) None) (shared : share ≡ SHARE_EXCLUSIVE → ⊥)
     (listed : share ≤ SHARE_EXCLUSIVE) (at : ℕ) (f : FindsEndpoint conn client b at) (e : Endpoint)

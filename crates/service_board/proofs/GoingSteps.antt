@@ -5,7 +5,7 @@ use Rattle.std.proofs.lemmas.Bool.{false≢true}
 use Rattle.std.specs.List.{AllByRecursion}
 use Rattle.ca_base.specs.declared.ids.Gate.{Gate}
 use Rattle.ca_base.specs.declared.ids.Gate.TheVariants as gate
-use Rattle.buffer_ring.specs.declared.step.Step.{Step}
+use Rattle.buffer_ring.specs.declared.step.StoreStep.{StoreStep}
 use Rattle.ca_machine.specs.declared.state.Client.{Client}
 use Rattle.period_engine.specs.declared.entry.StreamEntry.{StreamEntry}
 use Rattle.period_engine.specs.Agreement.{ArePacked, Layout, layout_of}
@@ -13,21 +13,21 @@ use Rattle.service_book.specs.Leaving.{is_live}
 use Rattle.service_board.specs.Does.{Made, layout_at, store_at}
 use Rattle.service_board.specs.Leaving.{ClosesOnce, Goes, is_of_live}
 
-module _ {E : Type 0} (moves : E → List Step → E → Type 0) (clients : List Client) where
+module _ {E : Type 0} (moves : E → List StoreStep → E → Type 0) (clients : List Client) where
   -- an entry's store goes if no live client has it
   abbrev pub GoesUnlessLive : StreamEntry E → Type 0
   GoesUnlessLive e = is_of_live clients e ≡ false → Goes moves e
 
   -- that of an open gate takes the step that closes it, and no other takes any
-  abbrev closing_steps : Gate → List Step → List Step
+  abbrev closing_steps : Gate → List StoreStep → List StoreStep
   closing_steps gate.Open ss = ss
   closing_steps _ ss = []
 
-  abbrev own_steps : (e : StreamEntry E) (live : Bool) → (live ≡ false → Goes moves e) → List Step
+  abbrev own_steps : (e : StreamEntry E) (live : Bool) → (live ≡ false → Goes moves e) → List StoreStep
   own_steps e true h = []
   own_steps e false h = closing_steps e.gate (h refl).steps
 
-  abbrev pub steps_of : (entries : List (StreamEntry E)) → AllByRecursion GoesUnlessLive entries → ℕ → List Step
+  abbrev pub steps_of : (entries : List (StreamEntry E)) → AllByRecursion GoesUnlessLive entries → ℕ → List StoreStep
   steps_of [] h client = []
   steps_of (e ∷ entries) h client =
       if e.client.0 == client then own_steps e (is_of_live clients e) h.0 else steps_of entries h.1 client
@@ -50,7 +50,7 @@ module _ {E : Type 0} (moves : E → List Step → E → Type 0) (clients : List
       by false other rest = rest
 
   -- no step takes frames
-  closing_packed : (l : Layout) (g : Gate) (ss : List Step) → (g ≡ gate.Open → ClosesOnce ss) →
+  closing_packed : (l : Layout) (g : Gate) (ss : List StoreStep) → (g ≡ gate.Open → ClosesOnce ss) →
       ArePacked l (closing_steps g ss)
   closing_packed l gate.Open ss h = subst (ArePacked l) (sym (h refl).1) (tt, tt)
   closing_packed l (gate.Closed reason) ss h = tt
@@ -92,13 +92,13 @@ module _ {E : Type 0} (moves : E → List Step → E → Type 0) (clients : List
       by false gone own e' rest = rest
 
   module _ (given : Option E) (stays : (a : E) → moves a [] a) where
-    closing_made : (a : E) (g : Gate) (ss : List Step) (last : E) → moves a ss last →
+    closing_made : (a : E) (g : Gate) (ss : List StoreStep) (last : E) → moves a ss last →
         (b : E) × moves a (closing_steps g ss) b
     closing_made a gate.Open ss last made = (last, made)
     closing_made a (gate.Closed reason) ss last made = (a, stays a)
 
-    made_one : (e : StreamEntry E) (old kept : List (StreamEntry E)) (client : ℕ) (steps : List Step) (own : Bool) →
-        (e.client.0 == client) ≡ own → (live : Bool) (h : live ≡ false → Goes moves e) →
+    made_one : (e : StreamEntry E) (old kept : List (StreamEntry E)) (client : ℕ) (steps : List StoreStep)
+        (own : Bool) → (e.client.0 == client) ≡ own → (live : Bool) (h : live ≡ false → Goes moves e) →
         (own ≡ true → live ≡ false → store_at client kept ≡ None) →
         Made moves given steps (store_at client old) (store_at client kept) →
         Made moves given (if own then own_steps e live h else steps)

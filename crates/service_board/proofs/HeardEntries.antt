@@ -4,7 +4,7 @@ use Rattle.std.proofs.Common.{sym, ap, ap₂, ◌∙◌, subst, if◌then◌else
 use Rattle.std.specs.List.{All, AllZip}
 use Rattle.std.proofs.lemmas.List.Elements.{All-nil, All-cons, All-head, All-tail}
 use Rattle.ca_base.specs.declared.limits.TheConstants.{MAX_COUNT}
-use Rattle.buffer_ring.specs.declared.step.Step.{Step}
+use Rattle.buffer_ring.specs.declared.step.StoreStep.{StoreStep}
 use Rattle.ca_stage.specs.Stage.{BufferData, Frame, Stream, is_loopback, is_open_gate, no_data}
 use Rattle.ca_stage.specs.Moves.{fed, moved, retired}
 use Rattle.ca_stage.specs.Periods.{fed_if, is_hearing, is_playing}
@@ -52,8 +52,8 @@ module _ (number : ℕ) (heard : List Frame) where
       subst (λ c. IsAlike (fed_if (is_hearing number) heard s) (if c then moved (fed heard) t else t))
       (hears_alike s t a) (fed_alike s t a (is_hearing number s))
 
-  module _ {E : Type 0} (moves : E → List Step → E → Type 0)
-      (joins : (a b c : E) (s t : List Step) → moves a s b → moves b t c → moves a (s ++ t) c) where
+  module _ {E : Type 0} (moves : E → List StoreStep → E → Type 0)
+      (joins : (a b c : E) (s t : List StoreStep) → moves a s b → moves b t c → moves a (s ++ t) c) where
     left_alike : (a b : StreamEntry E) → Turned moves (retires_on number) a b →
         IsAlike (stream_with no_data b) (retires_on number (stream_with no_data a))
     left_alike a b h =
@@ -118,7 +118,7 @@ pub record IsAsOffered {E : Type 0} (a b : StreamEntry E) : Type 0 where
   pub gate : b.gate ≡ a.gate
   pub ever : b.ever ≡ a.ever
 
-module _ {E : Type 0} (moves : E → List Step → E → Type 0) (number channels p : ℕ) where
+module _ {E : Type 0} (moves : E → List StoreStep → E → Type 0) (number channels p : ℕ) where
   -- if it hears the endpoint, it may be offered a packet
   abbrev pub FeedsHeard : StreamEntry E → Type 0
   FeedsHeard e = is_heard number e ≡ true → IsFeedable channels p e
@@ -161,7 +161,7 @@ module _ {E : Type 0} (moves : E → List Step → E → Type 0) (number channel
         ever = h.ever ∙ kept.2;
       }
 
-  takes_as : (steps : List Step) (a b : StreamEntry E) → TakesSteps moves steps a b → IsAsOffered a b
+  takes_as : (steps : List StoreStep) (a b : StreamEntry E) → TakesSteps moves steps a b → IsAsOffered a b
   takes_as steps a b h = record { same = h.same; running = h.running; gate = h.gate; ever = h.ever }
 
   all_as : (R : StreamEntry E → StreamEntry E → Type 0) → ((a b : StreamEntry E) → R a b → IsAsOffered a b) →
@@ -173,7 +173,7 @@ module _ {E : Type 0} (moves : E → List Step → E → Type 0) (number channel
   all_as R alike [] (y ∷ ys) h feeds = absurd h
   all_as R alike (x ∷ xs) [] h feeds = absurd h
 
-  all_taken : (steps : ℕ → List Step) (xs ys : List (StreamEntry E)) → AllTakeSteps moves steps xs ys →
+  all_taken : (steps : ℕ → List StoreStep) (xs ys : List (StreamEntry E)) → AllTakeSteps moves steps xs ys →
       All FeedsHeard xs → All FeedsHeard ys
   all_taken steps [] [] h feeds = All-nil FeedsHeard
   all_taken steps (x ∷ xs) (y ∷ ys) h feeds =
@@ -184,7 +184,7 @@ module _ {E : Type 0} (moves : E → List Step → E → Type 0) (number channel
   all_taken steps (x ∷ xs) [] h feeds = absurd h
 
   -- once what was picked is rendered, those who hear may be offered a packet still
-  pub still_feed : (steps : ℕ → List Step) (xs ys zs ws : List (StreamEntry E)) → All FeedsHeard xs →
+  pub still_feed : (steps : ℕ → List StoreStep) (xs ys zs ws : List (StreamEntry E)) → All FeedsHeard xs →
       AllZip (Turned moves (picks_on number p)) xs ys → AllTakeSteps moves steps ys zs →
       AllZip (Turned moves (retires_on number)) zs ws → All FeedsHeard ws
   still_feed steps xs ys zs ws feeds h k l =

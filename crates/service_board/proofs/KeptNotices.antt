@@ -12,7 +12,7 @@ use Rattle.ca_base.specs.declared.codes.Hr.{Hr}
 use Rattle.ca_base.specs.declared.limits.TheConstants.{NOTICES}
 use Rattle.ca_base.specs.Rows.{Row}
 use Rattle.buffer_ring.specs.declared.step.EndState.{EndState}
-use Rattle.buffer_ring.specs.declared.step.Step.{Step}
+use Rattle.buffer_ring.specs.declared.step.StoreStep.{StoreStep}
 use Rattle.ca_stage.specs.Stage.{BufferData}
 use Rattle.ca_stage.specs.Tally.{Tally}
 use Rattle.event_notices.specs.declared.notice.Notice.{Notice}
@@ -29,7 +29,7 @@ use Rattle.service_board.specs.Lookups.{FindsNotices, Says}
 use Rattle.service_board.specs.declared.board.Board.{Board}
 use Rattle.service_board.proofs.AddDoes.{stays_does}
 use Rattle.service_board.proofs.Connecting.{known_within}
-use Rattle.service_board.proofs.Doing.{answers_refused}
+use Rattle.service_board.proofs.PlainEvents.{answers_refused}
 use Rattle.service_board.proofs.Tellings.{drafted_order, with_told}
 
 -- those of a connection that is open have a place
@@ -84,7 +84,7 @@ module _ {D E : Type 0} (b : Board D E) (conn at : ℕ) (q : Notices) (kept : Ar
       ap (λ ns. record (state_of datas tally b) { notices = ns })
       (ap (set items at) (same ∙ sym (get_or_from_slice_get items at q q kept.here)) ∙ set-get_or items at q)
 
-  module _ (faults : D → ℕ) (told : D → Option (List DeviceLog)) (moves : E → List Step → E → Type 0)
+  module _ (faults : D → ℕ) (told : D → Option (List DeviceLog)) (moves : E → List StoreStep → E → Type 0)
       (stays : (a : E) → moves a [] a) (plan : Notices → State → Plan) (new : Notices) (drafts : Vec Notice) where
     -- a call of them goes on as a plan over them says
     pub queue_does : (result : Hr) (payload : List ℕ) →

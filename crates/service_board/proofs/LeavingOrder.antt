@@ -1,29 +1,32 @@
 -- A board that clients left is in order.
-use Rattle.std.proofs.Common.{◌≡◌, ℕ, ◌≤◌, ◌==◌, nat_eq, not, List, [], ◌∷◌, length, map, filter, Bool, true, false, cond, refl}
-use Rattle.std.proofs.Common.{sym, ap, ◌∙◌, subst, find, arith, eqb-true}
+use Rattle.std.proofs.Common.{◌≡◌, ℕ, ◌≤◌, ◌==◌, nat_eq, not, List, [], ◌∷◌, length, map, filter, Bool, true, false}
+use Rattle.std.proofs.Common.{cond, refl, sym, ap, ◌∙◌, subst, find, get_or, arith, eqb-true, eq-eqb}
 use Rattle.std.proofs.lemmas.List.Elements.{All-filter, All-from_recursion, recursion_from_All}
-use Rattle.std.specs.List.{All, AllByRecursion, IsDistinct}
+use Rattle.std.specs.List.{All, AllByRecursion, IsDistinct, list_any}
 use Rattle.std.specs.Vec.{vec_capacity}
-use Rattle.std.proofs.lemmas.Bool.{true≢false}
+use Rattle.std.proofs.lemmas.List.Folds.{list_any_at}
 use Rattle.std.proofs.lemmas.Map.Views.{any-filter_same}
 use Rattle.std.proofs.lemmas.Map.Keys.{IsDistinct-cons, IsDistinct-head, IsDistinct-tail}
 use Rattle.ca_base.specs.declared.limits.TheConstants.{CLIENTS}
 use Rattle.buffer_ring.specs.declared.step.EndState.{EndState}
-use Rattle.buffer_ring.specs.declared.step.Step.{Step}
+use Rattle.buffer_ring.specs.declared.step.StoreStep.{StoreStep}
 use Rattle.ca_stage.specs.Order.{RisesFrom}
+use Rattle.session_manager.specs.declared.session.Session.{Session}
+use Rattle.session_manager.specs.Sessions.{is_session, session_at}
 use Rattle.ca_machine.specs.declared.state.Client.{Client}
 use Rattle.ca_machine.specs.declared.state.Connection.{Connection}
 use Rattle.ca_machine.specs.State.{is_connection, live_clients}
 use Rattle.ca_machine.specs.Clients.{is_client_on}
 use Rattle.period_engine.specs.declared.entry.StreamEntry.{StreamEntry}
 use Rattle.period_engine.specs.Entries.{IsRested}
+use Rattle.service_book.specs.Gains.{gains_by}
 use Rattle.service_book.specs.InOrder.{HasLevels, IsBook, IsOpen, IsOwned}
 use Rattle.service_book.specs.Leaving.{is_live}
 use Rattle.service_book.specs.declared.book.Book.{Book}
 use Rattle.service_board.specs.InOrder.{Belongs, InOrder}
-use Rattle.service_board.specs.Leaving.{Forgets, is_of_live}
+use Rattle.service_board.specs.Leaving.{Forgets, is_in_use, is_of_live}
 use Rattle.service_board.specs.declared.board.Board.{Board}
-use Rattle.service_board.proofs.Kept.{fewer_kept, found_kept, rises_kept}
+use Rattle.service_board.proofs.KeptEntries.{fewer_kept, find_kept, found_kept, rises_kept}
 use Rattle.service_board.proofs.LeavingState.{without_clients}
 
 -- what holds of a member that passes, by what held of it
@@ -81,8 +84,8 @@ owned_left conn cs clients all =
         (λ k same. ap (λ n. not (n == conn)) (eqb-true k.conn.0 x.conn.0 same) ∙ other) cs
         ∙ owned
 
-module _ {D E : Type 0} (state : E → EndState) (moves : E → List Step → E → Type 0) (b new : Board D E) (book : Book)
-    (order : InOrder state b) (p : Client → Bool) (forgets : Forgets moves (without_clients b book) new)
+module _ {D E : Type 0} (state : E → EndState) (moves : E → List StoreStep → E → Type 0) (b new : Board D E)
+    (book : Book) (order : InOrder state b) (p : Client → Bool) (forgets : Forgets moves (without_clients b book) new)
     (left : book.clients.items ≡ filter (λ c. not (p c)) b.book.clients.items)
     (room : vec_capacity book.clients ≡ vec_capacity b.book.clients)
     (connection_room : vec_capacity book.connections ≡ vec_capacity b.book.connections)
@@ -97,7 +100,6 @@ module _ {D E : Type 0} (state : E → EndState) (moves : E → List Step → E 
     clients = book.clients;
     notices = book.notices;
     sessions = new.book.sessions;
-    levels_changed = true;
   }
 
   book_left : IsBook last_book
@@ -130,9 +132,25 @@ module _ {D E : Type 0} (state : E → EndState) (moves : E → List Step → E 
         owned = subst (All (IsOwned book.connections.items)) (sym left) owned;
       }
 
+  -- the streams that are left
+  abbrev kept : List (StreamEntry E)
+  kept = filter (is_of_live book.clients.items) b.entries.items
+
+  -- a session of one of them stays
+  session_kept : (number : ℕ) → list_any (λ (e : StreamEntry E). e.session.0 == number) kept ≡ true →
+      session_at number new.book.sessions.list ≡ session_at number b.book.sessions.list
+  session_kept number used =
+      ap (session_at number) forgets.sessions
+      ∙ find_kept (is_session number) (is_in_use new.entries.items)
+      (λ (s : Session) own.
+      ap (λ (es : List (StreamEntry E)). list_any (λ e. e.session.0 == s.no.0) es) forgets.streams.left
+      ∙ ap (λ n. list_any (λ (e : StreamEntry E). e.session.0 == n) kept) (eqb-true s.no.0 number own)
+      ∙ used)
+      b.book.sessions.list
+
   belongs_left : (e : StreamEntry E) → Belongs b.book b.seats.items e → is_of_live book.clients.items e ≡ true →
-      Belongs last_book b.seats.items e
-  belongs_left e h live = record {
+      list_any (λ (d : StreamEntry E). d.session.0 == e.session.0) kept ≡ true → Belongs last_book b.seats.items e
+  belongs_left e h live used = record {
     client = h.client;
     live =
         ap (find (λ c. c.client.0 == e.client.0)) left
@@ -141,16 +159,29 @@ module _ {D E : Type 0} (state : E → EndState) (moves : E → List Step → E 
     on = h.on;
     opens = h.opens;
     within = h.within;
-    gains = λ t. absurd (true≢false t);
+    gains = λ fresh. h.gains fresh ∙ ap (gains_by h.client.levels) (sym (session_kept e.session.0 used));
   }
+
+  -- one of them belonged to the book before
+  abbrev Stays : StreamEntry E → Type 0
+  Stays e = Belongs b.book b.seats.items e × (is_of_live book.clients.items e ≡ true)
+
+  all_stay : All Stays kept
+  all_stay =
+      All-from_recursion Stays kept
+      (passing (is_of_live book.clients.items) (Belongs b.book b.seats.items) Stays (λ e h live. (h, live))
+      b.entries.items (recursion_from_All (Belongs b.book b.seats.items) b.entries.items order.belong))
+
+  all_belong : All (Belongs last_book b.seats.items) kept
+  all_belong k d lt =
+      let e : StreamEntry E = get_or kept k d in
+      let stays = all_stay k d lt in
+      belongs_left e stays.0 stays.1
+      (list_any_at (λ (y : StreamEntry E). y.session.0 == e.session.0) kept k d lt
+      (eq-eqb e.session.0 e.session.0 refl))
 
   pub order_left : InOrder state new
   order_left =
-      let kept : List (StreamEntry E) = filter (is_of_live book.clients.items) b.entries.items in
-      let belong : All (Belongs last_book b.seats.items) kept =
-      All-from_recursion (Belongs last_book b.seats.items) kept
-      (passing (is_of_live book.clients.items) (Belongs b.book b.seats.items) (Belongs last_book b.seats.items)
-      belongs_left b.entries.items (recursion_from_All (Belongs b.book b.seats.items) b.entries.items order.belong)) in
       subst (InOrder state) (sym forgets.rest) (record {
         order =
             subst (λ (es : List (StreamEntry E)). RisesFrom 0 (map (λ e. e.client.0) es)) (sym forgets.streams.left)
@@ -159,7 +190,7 @@ module _ {D E : Type 0} (state : E → EndState) (moves : E → List Step → E 
         rested =
             subst (All (IsRested state)) (sym forgets.streams.left)
             (All-filter (is_of_live book.clients.items) (IsRested state) b.entries.items order.rested);
-        belong = subst (All (Belongs last_book b.seats.items)) (sym forgets.streams.left) belong;
+        belong = subst (All (Belongs last_book b.seats.items)) (sym forgets.streams.left) all_belong;
         seats = order.seats;
         book = book_left;
         room = let r = order.room in let s = forgets.room in omega arith;

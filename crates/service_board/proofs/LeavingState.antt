@@ -8,8 +8,8 @@ use Rattle.std.specs.List.{AllByRecursion}
 use Rattle.ca_base.specs.declared.ids.Gate.TheVariants as gate
 use Rattle.ca_base.specs.declared.ids.Reason.TheVariants.{Released}
 use Rattle.buffer_ring.specs.declared.step.Deed.TheVariants as deed
-use Rattle.buffer_ring.specs.declared.step.Step.{Step}
-use Rattle.buffer_ring.specs.declared.step.Step.TheVariants as step
+use Rattle.buffer_ring.specs.declared.step.StoreStep.{StoreStep}
+use Rattle.buffer_ring.specs.declared.step.StoreStep.TheVariants as step
 use Rattle.ca_stage.specs.Stage.{BufferData, Stage, Stream}
 use Rattle.ca_stage.specs.Moves.{after_moves}
 use Rattle.ca_stage.specs.Tally.{Tally, tally_after}
@@ -33,7 +33,7 @@ use Rattle.service_board.specs.Does.{Made, after_steps, layout_at, store_at}
 use Rattle.service_board.specs.Leaving.{AreClosed, Forgets, Keeps, is_in_use, is_of_live}
 use Rattle.service_board.specs.declared.board.Board.{Board}
 use Rattle.service_board.proofs.GoingSteps.{GoesUnlessLive, made_of, none_of_live, packed_of, steps_of}
-use Rattle.service_board.proofs.Kept.{any_mapped, apart, kept_alike, kept_mapped}
+use Rattle.service_board.proofs.KeptEntries.{any_mapped, apart, kept_alike, kept_mapped}
 
 -- a client that is live
 live_is : (clients : List Client) (n : ℕ) → is_among n (live_clients clients) ≡ is_live clients n
@@ -47,7 +47,7 @@ left_apart p clients rises n left =
     live_is (filter p clients) n
     ∙ apart (λ c. c.client.0) p n 0 clients rises (sym (live_is (filter (λ c. not (p c)) clients) n) ∙ left)
 
-module _ {E : Type 0} (moves : E → List Step → E → Type 0) (left : List Client) (entries : List (StreamEntry E))
+module _ {E : Type 0} (moves : E → List StoreStep → E → Type 0) (left : List Client) (entries : List (StreamEntry E))
     (goes : AllByRecursion (GoesUnlessLive moves left) entries) (datas : ℕ → BufferData) where
   -- the data once the stores went
   abbrev pub datas_left : ℕ → BufferData
@@ -88,14 +88,14 @@ without_clients b book =
       };
     }
 
-module _ {D E : Type 0} (moves : E → List Step → E → Type 0) (b new : Board D E) (book : Book) (p : Client → Bool)
+module _ {D E : Type 0} (moves : E → List StoreStep → E → Type 0) (b new : Board D E) (book : Book) (p : Client → Bool)
     (forgets : Forgets moves (without_clients b book) new)
     (left : book.clients.items ≡ filter (λ c. not (p c)) b.book.clients.items)
     (rises : RisesFrom 0 (live_clients b.book.clients.items)) where
   abbrev pub goes : AllByRecursion (GoesUnlessLive moves book.clients.items) b.entries.items
   goes = recursion_from_All (GoesUnlessLive moves book.clients.items) b.entries.items forgets.streams.gone
 
-  abbrev pub leaving_steps : ℕ → List Step
+  abbrev pub leaving_steps : ℕ → List StoreStep
   leaving_steps = steps_of moves book.clients.items b.entries.items goes
 
   abbrev pub gone_clients : List Client
@@ -208,7 +208,7 @@ still_stored clients n (e ∷ entries) l h =
         rest (sym (ap (λ v. if v then Some e.store else store_at n (filter (is_of_live clients) entries)) other) ∙ h)
     by false other false gone rest h = rest h
 
-pub are_closed : {E : Type 0} (moves : E → List Step → E → Type 0) (clients : List Client)
+pub are_closed : {E : Type 0} (moves : E → List StoreStep → E → Type 0) (clients : List Client)
     (old new : List (StreamEntry E)) → Keeps moves clients old new → AreClosed moves old new
 are_closed {E} moves clients old new keeps k d lt opens none =
     by (is_of_live clients (get_or old k d)) refl
@@ -226,7 +226,7 @@ are_closed {E} moves clients old new keeps k d lt opens none =
         (once.0, goes.last, subst (λ ss. moves (get_or old k d).store ss goes.last) once.1 goes.made)
 
 -- of a refused event nothing is gone
-pub none_closed : {E : Type 0} (moves : E → List Step → E → Type 0) (entries : List (StreamEntry E)) →
+pub none_closed : {E : Type 0} (moves : E → List StoreStep → E → Type 0) (entries : List (StreamEntry E)) →
     AreClosed moves entries entries
 none_closed moves entries k d lt opens none =
     absurd (All-from_recursion _ entries (none_stored (get_or entries k d).client.0 entries none) k d lt refl)

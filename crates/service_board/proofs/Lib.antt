@@ -1,14 +1,15 @@
 pub mod LookingUp
 pub mod ValidEndpoints
-pub mod Granting
+pub mod GrantedEvents
 pub mod EndpointCalls
 pub mod FormatRows
 pub mod StreamRows
 pub mod OneEntry
 pub mod StreamMoves
+pub mod RunningStreams
 pub mod PeriodSizes
-pub mod Emptying
-pub mod Doing
+pub mod EmptiedEntries
+pub mod PlainEvents
 pub mod NewBoards
 pub mod ByClient
 pub mod Closable
@@ -18,7 +19,7 @@ pub mod Disconnecting
 pub mod DisconnectedOrder
 pub mod WornEntries
 pub mod DuePeriods
-pub mod Fewer
+pub mod EntryCounts
 pub mod PeriodGains
 pub mod PeriodNeeds
 pub mod Offering
@@ -36,8 +37,8 @@ pub mod PeriodEnds
 pub mod Sounding
 pub mod Connecting
 pub mod Activating
-pub mod Parting
-pub mod Kept
+pub mod PartedEntries
+pub mod KeptEntries
 pub mod GoingSteps
 pub mod LeavingState
 pub mod LeavingOrder
@@ -49,7 +50,7 @@ pub mod FormatMade
 pub mod Opened
 pub mod OpenedOrder
 pub mod Places
-pub mod Planning
+pub mod OpeningRows
 pub mod SettingLevels
 pub mod StreamLevels
 pub mod SettingSessions

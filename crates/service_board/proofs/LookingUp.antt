@@ -1,4 +1,4 @@
--- What the look-ups find on a board, and which rows refuse where they find nothing.
+-- What the look-ups find on a board, and which rows refuse if they find nothing.
 use Rattle.std.proofs.Common.{◌≡◌, ℕ, ◌==◌, List, ◌++◌, Option, Some, None, refl, sym, ap, ◌∙◌, eqb-true}
 use Rattle.std.proofs.Common.{if◌then◌else◌, is_none, get_or, subst, not, Bool, true, false, Result, Ok, Err}
 use Rattle.std.proofs.Common.{IfErr, IfOk}
@@ -25,7 +25,8 @@ use Rattle.service_book.specs.InOrder.{IsOwned}
 use Rattle.service_book.proofs.Rows.{row_fails}
 use Rattle.service_book.proofs.Finding.{FoundAt, found_at, none_at, find_mapped, first_front, first_later}
 use Rattle.service_board.specs.Board.{state_of}
-use Rattle.service_board.specs.Lookups.{FindsClient, FindsStream, Says, client_call_rows, client_control_rows, is_entry_of, stream_call_rows}
+use Rattle.service_board.specs.Lookups.{FindsClient, FindsStream, Says, client_call_rows, client_control_rows}
+use Rattle.service_board.specs.Lookups.{is_entry_of, stream_call_rows}
 use Rattle.service_board.specs.declared.board.Board.{Board}
 
 -- rows that come first refuse, whatever comes behind them
@@ -34,7 +35,7 @@ pub says_front : {D E : Type 0} (b : Board D E) (front rest : State → List (Ro
 says_front b front rest code says datas tally =
     first_front (front (state_of datas tally b)) (rest (state_of datas tally b)) code (says datas tally)
 
--- rows that come later refuse where those before them don't
+-- rows that come later refuse if those before them don't
 pub says_later : {D E : Type 0} (b : Board D E) (front rest : State → List (Row Hr)) (verdict : Option Hr) →
     Says b front None → Says b rest verdict → Says b (λ st. front st ++ rest st) verdict
 says_later b front rest verdict passes says datas tally =

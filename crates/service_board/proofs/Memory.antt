@@ -1,4 +1,4 @@
--- How an event that takes memory is answered, where no row refuses it.
+-- How an event that takes memory is answered if no row refuses it.
 use Rattle.std.proofs.Common.{◌≡◌, List, [], ◌∷◌, None, refl, sym, ap, subst}
 use Rattle.ca_base.specs.declared.codes.Hr.{Hr}
 use Rattle.ca_base.specs.declared.codes.TheConstants.Hr as hr
@@ -9,7 +9,7 @@ use Rattle.ca_machine.specs.Plan.Answer.{found, out_of_memory}
 use Rattle.ca_machine.specs.Plan.Asked.{memory, nothing}
 use Rattle.ca_machine.specs.View.{AnswersBy, Outside, Passes}
 use Rattle.ca_machine.proofs.DevicesGive.{found_gives_none, passes_unread, short_gives_none}
-use Rattle.service_board.proofs.Doing.{add_none}
+use Rattle.service_board.proofs.PlainEvents.{add_none}
 
 module _ (st : State) (rows : List (Row Hr)) (outcome : Outcome) (out : Outside) (row : first rows ≡ None) where
   -- memory was found, and nothing is written
@@ -18,9 +18,9 @@ module _ (st : State) (rows : List (Row Hr)) (outcome : Outcome) (out : Outside)
   answers_found output = record {
     given = found ∷ [];
     answers = subst (λ v. AreAnswers (unless_row v (memory nothing)) (found ∷ [])) (sym row) refl;
-    result-is = ap (λ v. (unless_refused st v outcome).result) (sym row);
-    payload-is = ap (λ v. (unless_refused st v outcome).payload) (sym row);
-    after-is = ap (λ v. (unless_refused st v outcome).after) (sym row);
+    result_is = ap (λ v. (unless_refused st v outcome).result) (sym row);
+    payload_is = ap (λ v. (unless_refused st v outcome).payload) (sym row);
+    after_is = ap (λ v. (unless_refused st v outcome).after) (sym row);
     passes =
         subst (λ v. Passes out (unless_refused st v outcome).output (found ∷ []) out) (sym row)
         (subst (λ ps. Passes out ps (found ∷ []) out) (sym output)
@@ -34,9 +34,9 @@ module _ (st : State) (rows : List (Row Hr)) (outcome : Outcome) (out : Outside)
       record {
         given = out_of_memory ∷ [];
         answers = subst (λ v. AreAnswers (unless_row v (memory nothing)) (out_of_memory ∷ [])) (sym row) tt;
-        result-is = ap (λ v. (unless_refused st v o).result) (sym row);
-        payload-is = ap (λ v. (unless_refused st v o).payload) (sym row);
-        after-is = ap (λ v. (unless_refused st v o).after) (sym row);
+        result_is = ap (λ v. (unless_refused st v o).result) (sym row);
+        payload_is = ap (λ v. (unless_refused st v o).payload) (sym row);
+        after_is = ap (λ v. (unless_refused st v o).after) (sym row);
         passes =
             subst (λ v. Passes out (unless_refused st v o).output (out_of_memory ∷ []) out) (sym row)
             (passes_unread out out [] (out_of_memory ∷ []) short_gives_none (add_none out.told) refl);

@@ -1,5 +1,6 @@
 -- What an event does on a board with the endpoint that it names: another state, name or format, and a choice.
-use Rattle.std.proofs.Common.{◌≡◌, ℕ, not, List, [], ◌∷◌, get_or, Bool, Option, Some, None, Ok, Err, refl, sym, ap, ◌∙◌, subst}
+use Rattle.std.proofs.Common.{◌≡◌, ℕ, not, List, [], ◌∷◌, get_or, Bool, Option, Some, None, Ok, Err, refl, sym, ap, ◌∙◌}
+use Rattle.std.proofs.Common.{subst}
 use Rattle.std.specs.Global.{Vec}
 use Rattle.std.proofs.lemmas.Option.{get_or_from_slice_get}
 use Rattle.device_io.specs.DeviceLog.{DeviceLog}
@@ -8,7 +9,7 @@ use Rattle.ca_base.specs.declared.codes.TheConstants.Hr as hr
 use Rattle.ca_base.specs.declared.ids.Reason.TheVariants.{Removal}
 use Rattle.ca_base.specs.Rows.{first}
 use Rattle.buffer_ring.specs.declared.step.EndState.{EndState}
-use Rattle.buffer_ring.specs.declared.step.Step.{Step}
+use Rattle.buffer_ring.specs.declared.step.StoreStep.{StoreStep}
 use Rattle.device_registry.specs.declared.endpoint.Endpoint.{Endpoint}
 use Rattle.device_registry.specs.Changes.{Sets, with_changed}
 use Rattle.device_registry.specs.Endpoints.{EndpointList, endpoint_at, is_state, with_state}
@@ -27,7 +28,7 @@ use Rattle.service_board.specs.declared.board.Board.{Board}
 use Rattle.service_board.proofs.ChangedBoards.{changed_granted, changed_order}
 use Rattle.service_board.proofs.ChangedEndpoints.{zip_changed}
 use Rattle.service_board.proofs.Disconnecting.{IsGranted, disconnects_does}
-use Rattle.service_board.proofs.Doing.{not_asked, refused_does}
+use Rattle.service_board.proofs.PlainEvents.{not_asked, refused_does}
 use Rattle.service_board.proofs.NamedRows.{own_says}
 
 -- the endpoint that was found, as it is read at its place
@@ -53,7 +54,7 @@ module _ {D E : Type 0} (b : Board D E) (number at to : ℕ) (found : FindsNamed
       own_says b number at found (λ st. (not (is_state to), hr.E_INVALIDARG) ∷ []) verdict
       (λ datas tally. sym (h ∙ ap (λ o. first (state_rows to o)) found.found))
 
-  module _ (faults : D → ℕ) (told : D → Option (List DeviceLog)) (moves : E → List Step → E → Type 0)
+  module _ (faults : D → ℕ) (told : D → Option (List DeviceLog)) (moves : E → List StoreStep → E → Type 0)
       (registry : EndpointList) where
     pub state_refused : (stays : (a : E) → moves a [] a) (code : Hr) →
         Sets (state_rows to (endpoint_at number b.book.registry.list))

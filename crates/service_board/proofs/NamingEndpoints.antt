@@ -9,7 +9,7 @@ use Rattle.ca_base.specs.declared.codes.TheConstants.Hr as hr
 use Rattle.ca_base.specs.declared.ids.Reason.TheVariants.{Removal}
 use Rattle.ca_base.specs.Rows.{Row, first}
 use Rattle.buffer_ring.specs.declared.step.EndState.{EndState}
-use Rattle.buffer_ring.specs.declared.step.Step.{Step}
+use Rattle.buffer_ring.specs.declared.step.StoreStep.{StoreStep}
 use Rattle.ca_stage.specs.Order.{RisesFrom}
 use Rattle.device_registry.specs.declared.endpoint.Endpoint.{Endpoint}
 use Rattle.device_registry.specs.Changes.{Sets, with_changed}
@@ -27,7 +27,7 @@ use Rattle.service_board.specs.declared.board.Board.{Board}
 use Rattle.service_board.proofs.ChangedBoards.{changed_alike, changed_order, numbers}
 use Rattle.service_board.proofs.ChangedEndpoints.{zip_changed}
 use Rattle.service_board.proofs.DisconnectedOrder.{none_lost}
-use Rattle.service_board.proofs.Granting.{book_does}
+use Rattle.service_board.proofs.GrantedEvents.{book_does}
 use Rattle.service_board.proofs.LookingUp.{says_front}
 use Rattle.service_board.proofs.NamedRows.{own_says}
 
@@ -84,7 +84,7 @@ module _ {D E : Type 0} (b : Board D E) (number at : ℕ) (found : FindsNamed nu
         abbrev named_board : Board D E
         named_board = record b { book = record (b.book) { registry = registry } }
 
-        pub name_does : (faults : D → ℕ) (told : D → Option (List DeviceLog)) (moves : E → List Step → E → Type 0)
+        pub name_does : (faults : D → ℕ) (told : D → Option (List DeviceLog)) (moves : E → List StoreStep → E → Type 0)
             (stays : (a : E) → moves a [] a) → true ≡ is_utf8 name →
             Does faults told moves None AnyData b named_board (λ st. set_name_plan st number name) hr.S_OK []
         name_does faults told moves stays text =
@@ -94,15 +94,15 @@ module _ {D E : Type 0} (b : Board D E) (number at : ℕ) (found : FindsNamed nu
               passes = name_passes text datas tally;
               asks = refl;
               output = refl;
-              result-is = refl;
-              payload-is = refl;
-              after-is =
+              result_is = refl;
+              payload_is = refl;
+              after_is =
                   ap (λ (r : EndpointList).
                   record (state_of datas tally b) { endpoints = r.list; last_endpoint = r.last }) named;
             })
 
-        pub name_order : (moves : E → List Step → E → Type 0) (stays : (a : E) → moves a [] a) (state : E → EndState) →
-            InOrder state b → InOrder state named_board
+        pub name_order : (moves : E → List StoreStep → E → Type 0) (stays : (a : E) → moves a [] a)
+            (state : E → EndState) → InOrder state b → InOrder state named_board
         name_order moves stays state order =
             changed_order moves state b order false Removal number b.entries
             (none_lost moves stays state Removal (Some number) b.entries order.rested) (with_name name) registry named

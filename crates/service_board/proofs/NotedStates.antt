@@ -12,7 +12,7 @@ use Rattle.service_board.specs.Board.{state_of}
 use Rattle.service_board.specs.InOrder.{InOrder}
 use Rattle.service_board.specs.Telling.{noted_entry, noted_with}
 use Rattle.service_board.specs.declared.board.Board.{Board}
-use Rattle.service_board.proofs.Fewer.{are_entries}
+use Rattle.service_board.proofs.EntryCounts.{are_entries}
 
 -- the streams of entries are noted as the entries are, whatever the data
 pub noted_streams : {E : Type 0} (datas : ℕ → BufferData) (entries : List (StreamEntry E)) →

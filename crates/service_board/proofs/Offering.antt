@@ -45,12 +45,12 @@ pub answers_granted_by : (st : State) (plan : Plan) (result : Hr) (payload : Lis
     result ≡ (plan.grants given).result → payload ≡ (plan.grants given).payload →
     after ≡ (plan.grants given).after → Passes old (plan.grants given).output given new →
     AnswersBy st plan result payload after old new
-answers_granted_by st plan result payload after old new given none answers result-is payload-is after-is passes =
+answers_granted_by st plan result payload after old new given none answers result_is payload_is after_is passes =
     record {
       given = given;
       answers = subst (λ v. AreAnswers (unless_row v plan.asks) given) (sym none) answers;
-      result-is = result-is ∙ ap (λ v. (unless_refused st v (plan.grants given)).result) (sym none);
-      payload-is = payload-is ∙ ap (λ v. (unless_refused st v (plan.grants given)).payload) (sym none);
-      after-is = after-is ∙ ap (λ v. (unless_refused st v (plan.grants given)).after) (sym none);
+      result_is = result_is ∙ ap (λ v. (unless_refused st v (plan.grants given)).result) (sym none);
+      payload_is = payload_is ∙ ap (λ v. (unless_refused st v (plan.grants given)).payload) (sym none);
+      after_is = after_is ∙ ap (λ v. (unless_refused st v (plan.grants given)).after) (sym none);
       passes = subst (λ v. Passes old (unless_refused st v (plan.grants given)).output given new) (sym none) passes;
     }

@@ -4,14 +4,14 @@ use Rattle.std.proofs.Common.{Option, Some, refl, sym, ap, ap₂, subst, ◌∙�
 use Rattle.std.specs.List.{AllByRecursion, slice_get}
 use Rattle.std.proofs.lemmas.Bool.{eqb-false, ne_eqb}
 use Rattle.std.proofs.lemmas.Option.{none-some, same_Some}
-use Rattle.buffer_ring.specs.declared.step.Step.{Step}
+use Rattle.buffer_ring.specs.declared.step.StoreStep.{StoreStep}
 use Rattle.ca_stage.specs.Stage.{BufferData, Stream}
 use Rattle.ca_stage.specs.Order.{RisesFrom}
 use Rattle.period_engine.specs.declared.entry.StreamEntry.{StreamEntry}
 use Rattle.period_engine.specs.Agreement.{Agrees, AllAgree, ArePacked, layout_of}
 use Rattle.period_engine.specs.Entries.{stream_of, stream_with, streams_of}
 use Rattle.service_board.specs.Does.{Made, layout_at, store_at}
-use Rattle.service_board.proofs.Doing.{made_still}
+use Rattle.service_board.proofs.PlainEvents.{made_still}
 
 -- an entry of another client
 abbrev pub IsOther : {E : Type 0} → ℕ → StreamEntry E → Type 0
@@ -51,7 +51,7 @@ sole_there low (x ∷ xs) r (suc at) e h =
     later x xs at (λ same. absurd (omega (arith, same))) (sole_there (suc x.client.0) xs r.1 at e h)
 
 -- the steps of one client
-abbrev pub only : ℕ → List Step → ℕ → List Step
+abbrev pub only : ℕ → List StoreStep → ℕ → List StoreStep
 only number steps client = if number == client then steps else []
 
 -- what holds of a client that is this one or another
@@ -66,7 +66,7 @@ by_client number client P here_too elsewhere = go (number == client) refl
 is_itself : (n : ℕ) → (n == n) ≡ true
 is_itself n = eq-eqb n n refl
 
-pub only_here : (n : ℕ) (ss : List Step) → only n ss n ≡ ss
+pub only_here : (n : ℕ) (ss : List StoreStep) → only n ss n ≡ ss
 only_here n ss = ap (λ b. if b then ss else []) (is_itself n)
 
 module _ {E : Type 0} (e : StreamEntry E) where
@@ -85,13 +85,13 @@ module _ {E : Type 0} (e : StreamEntry E) where
       ap (λ b. if b then layout_of x else layout_at e.client.0 xs) (ne_eqb x.client.0 e.client.0 other)
       ∙ layout_found xs at sole
 
-  pub agrees_found : (steps : ℕ → List Step) (datas : ℕ → BufferData) (xs : List (StreamEntry E)) (at : ℕ) →
+  pub agrees_found : (steps : ℕ → List StoreStep) (datas : ℕ → BufferData) (xs : List (StreamEntry E)) (at : ℕ) →
       IsSole e xs at → AllAgree steps datas xs → Agrees (layout_of e) (steps e.client.0) (datas e.client.0)
   agrees_found steps datas _ _ (here xs others) agrees = agrees.0
   agrees_found steps datas _ _ (later x xs at other sole) agrees = agrees_found steps datas xs at sole agrees.1
 
   -- of its steps alone, which take whole packets
-  pub packs_only : (ss : List Step) → ArePacked (layout_of e) ss → (xs : List (StreamEntry E)) (at : ℕ) →
+  pub packs_only : (ss : List StoreStep) → ArePacked (layout_of e) ss → (xs : List (StreamEntry E)) (at : ℕ) →
       IsSole e xs at → (client : ℕ) → ArePacked (layout_at client xs) (only e.client.0 ss client)
   packs_only ss packs xs at sole client =
       by_client e.client.0 client (λ b. ArePacked (layout_at client xs) (if b then ss else []))
@@ -117,8 +117,8 @@ module _ {E : Type 0} (e new : StreamEntry E) (same : new.client.0 ≡ e.client.
       ap (λ o. if x.client.0 == client then Some x.store else o) (store_others client other xs at sole)
 
   -- its store was moved, and no other
-  pub made_only : (moves : E → List Step → E → Type 0) (given : Option E) → ((a : E) → moves a [] a) →
-      (ss : List Step) → moves e.store ss new.store → (xs : List (StreamEntry E)) (at : ℕ) → IsSole e xs at →
+  pub made_only : (moves : E → List StoreStep → E → Type 0) (given : Option E) → ((a : E) → moves a [] a) →
+      (ss : List StoreStep) → moves e.store ss new.store → (xs : List (StreamEntry E)) (at : ℕ) → IsSole e xs at →
       (client : ℕ) →
       Made moves given (only e.client.0 ss client) (store_at client xs) (store_at client (set xs at new))
   made_only moves given stays ss made xs at sole client =

@@ -13,7 +13,7 @@ use Rattle.ca_base.specs.declared.ids.StreamKind.{StreamKind}
 use Rattle.ca_base.specs.declared.limits.TheConstants.{SHARED_PERIOD}
 use Rattle.wave_format.specs.declared.format.Format.{Format}
 use Rattle.wave_format.specs.Format.{frames_of_time, spelled}
-use Rattle.buffer_ring.specs.declared.step.Step.{Step}
+use Rattle.buffer_ring.specs.declared.step.StoreStep.{StoreStep}
 use Rattle.ca_stage.specs.Stage.{BufferData, Stage, Stream, no_data}
 use Rattle.ca_stage.specs.Moves.{after_move, as_opened, opened}
 use Rattle.ca_stage.specs.Tally.{Tally}
@@ -38,9 +38,9 @@ use Rattle.service_board.specs.Does.{Does, Made, store_at}
 use Rattle.service_board.specs.Lookups.{is_entry_of}
 use Rattle.service_board.specs.Openings.{IsFresh, Plans, new_entry}
 use Rattle.service_board.specs.declared.board.Board.{Board}
-use Rattle.service_board.proofs.Doing.{made_still}
+use Rattle.service_board.proofs.PlainEvents.{made_still}
 use Rattle.service_board.proofs.Memory.{answers_found, answers_out_of_memory}
-use Rattle.service_board.proofs.Planning.{key_is}
+use Rattle.service_board.proofs.OpeningRows.{key_is}
 use Rattle.service_board.proofs.Places.{Splits, map_insert, no_store, other_store, own_store, streams_above}
 use Rattle.service_board.proofs.Places.{streams_below}
 
@@ -146,7 +146,7 @@ module _ {D E : Type 0} (x : Asked) (old : Board D E) (plan : OpeningPlan) (p : 
 
   -- ---- what it does
 
-  module _ (faults : D → ℕ) (told : D → Option (List DeviceLog)) (moves : E → List Step → E → Type 0)
+  module _ (faults : D → ℕ) (told : D → Option (List DeviceLog)) (moves : E → List StoreStep → E → Type 0)
       (stays : (a : E) → moves a [] a) where
     -- memory ran out
     pub no_memory_does : (given : Option E) (known : (ℕ → BufferData) → Type 0) →

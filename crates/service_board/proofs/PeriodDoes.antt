@@ -19,7 +19,7 @@ use Rattle.wave_format.specs.Frame.{frames_from}
 use Rattle.wave_format.proofs.BlockLaws.{frames_from-frame_bytes}
 use Rattle.volume_stack.specs.Scaling.{unit_gain}
 use Rattle.buffer_ring.specs.declared.step.EndState.{EndState}
-use Rattle.buffer_ring.specs.declared.step.Step.{Step}
+use Rattle.buffer_ring.specs.declared.step.StoreStep.{StoreStep}
 use Rattle.ca_stage.specs.Stage.{BufferData, Frame, Playhead, Stage, Stream, is_loopback, is_open, is_render}
 use Rattle.ca_stage.specs.Mix.{mixed, sound_bytes}
 use Rattle.ca_stage.specs.Moves.{Mixing, Move, after_moves, closed, fed, finished, moved, picked, playhead_after}
@@ -182,7 +182,7 @@ payload_alike : (before st : State) (e : Endpoint) (whole : Bool) →
 payload_alike before st e true = refl
 payload_alike before st e false = refl
 
-module _ {D E : Type 0} (faults : D → ℕ) (told : D → Option (List DeviceLog)) (moves : E → List Step → E → Type 0)
+module _ {D E : Type 0} (faults : D → ℕ) (told : D → Option (List DeviceLog)) (moves : E → List StoreStep → E → Type 0)
     (state : E → EndState) (b new : Board D E) (order : InOrder state b) (number at : ℕ) (due : FindsDue number b at)
     (whole : Bool)
     (plays : Plays moves due.active.endpoint.no.0 (period_frames due.active.endpoint)

@@ -14,7 +14,7 @@ use Rattle.ca_base.specs.declared.limits.TheConstants.{MAX_COUNT, SHARED_PERIOD}
 use Rattle.ca_base.specs.declared.values.TheConstants.{STATE_NOTPRESENT}
 use Rattle.wave_format.specs.Format.{IsValid, frames_of_time}
 use Rattle.buffer_ring.specs.declared.step.EndState.{EndState}
-use Rattle.buffer_ring.specs.declared.step.Step.{Step}
+use Rattle.buffer_ring.specs.declared.step.StoreStep.{StoreStep}
 use Rattle.ca_stage.specs.Moves.{finished, playhead_after}
 use Rattle.ca_stage.specs.Order.{AreDistinct, RisesFrom}
 use Rattle.ca_stage.proofs.Clients.{rising_distinct}
@@ -44,7 +44,7 @@ use Rattle.service_board.proofs.PeriodNeeds.{channels_read, end_gains}
 use Rattle.service_board.proofs.PeriodNeeds.{frames_read, same_room, seat_read}
 use Rattle.service_board.proofs.PeriodOrder.{keeps_place, period_order, zip_set_seat}
 
-module _ {D E : Type 0} (faults : D → ℕ) (told : D → Option (List DeviceLog)) (moves : E → List Step → E → Type 0)
+module _ {D E : Type 0} (faults : D → ℕ) (told : D → Option (List DeviceLog)) (moves : E → List StoreStep → E → Type 0)
     (state : E → EndState) (b : Board D E) (order : InOrder state b) (number at : ℕ) (due : FindsDue number b at)
   where
     abbrev here : Endpoint

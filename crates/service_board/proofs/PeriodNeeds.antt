@@ -30,7 +30,7 @@ use Rattle.service_board.specs.declared.board.Board.{Board}
 use Rattle.service_board.specs.declared.board.Seat.{Seat}
 use Rattle.service_board.proofs.WornEntries.{heard_behind, is_here, on_endpoint}
 
--- the gains that change nothing, of so many channels
+-- the gains that change nothing, of `channels` channels
 abbrev pub units : List ℕ
 units = unit_gain ∷ unit_gain ∷ unit_gain ∷ unit_gain ∷ []
 

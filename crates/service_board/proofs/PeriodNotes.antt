@@ -4,7 +4,7 @@ use Rattle.std.proofs.Common.{if◌then◌else◌}
 use Rattle.std.specs.List.{AllZip}
 use Rattle.device_io.specs.DeviceLog.{DeviceLog}
 use Rattle.ca_base.specs.declared.codes.Hr.{Hr}
-use Rattle.buffer_ring.specs.declared.step.Step.{Step}
+use Rattle.buffer_ring.specs.declared.step.StoreStep.{StoreStep}
 use Rattle.ca_stage.specs.Stage.{BufferData, Stream, no_data}
 use Rattle.ca_stage.specs.Periods.{is_playing}
 use Rattle.ca_stage.specs.Tally.{Tally}
@@ -29,7 +29,7 @@ noted_alike : {E : Type 0} (a b : StreamEntry E) → b.client ≡ a.client → b
     b.running ≡ a.running → b.gate ≡ a.gate → noted_entry b ≡ noted_entry a
 noted_alike a b client session running gate = rw (client, session, running, gate) refl
 
-module _ {E : Type 0} (moves : E → List Step → E → Type 0) where
+module _ {E : Type 0} (moves : E → List StoreStep → E → Type 0) where
   -- picks leave whether a stream runs, and its gate
   picks_leave : (number frames : ℕ) (a : StreamEntry E) →
       ((picks_on number frames (stream_with no_data a)).running ≡ a.running)
@@ -52,7 +52,7 @@ module _ {E : Type 0} (moves : E → List Step → E → Type 0) where
   noted_picked number frames [] (y ∷ ys) h = absurd h
   noted_picked number frames (x ∷ xs) [] h = absurd h
 
-  noted_taken : (steps : ℕ → List Step) (ys zs : List (StreamEntry E)) → AllTakeSteps moves steps ys zs →
+  noted_taken : (steps : ℕ → List StoreStep) (ys zs : List (StreamEntry E)) → AllTakeSteps moves steps ys zs →
       map noted_entry zs ≡ map noted_entry ys
   noted_taken steps [] [] h = refl
   noted_taken steps (y ∷ ys) (z ∷ zs) h =

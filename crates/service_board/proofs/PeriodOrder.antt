@@ -14,7 +14,7 @@ use Rattle.ca_base.specs.declared.limits.TheConstants.{CLIENTS, ENDPOINTS, NOTIC
 use Rattle.wave_format.specs.Format.{frames_of_time}
 use Rattle.volume_stack.specs.Scaling.{unit_gain}
 use Rattle.buffer_ring.specs.declared.step.EndState.{EndState}
-use Rattle.buffer_ring.specs.declared.step.Step.{Step}
+use Rattle.buffer_ring.specs.declared.step.StoreStep.{StoreStep}
 use Rattle.ca_stage.specs.Stage.{Frame, Playhead, Stream, is_loopback}
 use Rattle.ca_stage.specs.Moves.{Mixing, finished, playhead_after}
 use Rattle.ca_stage.specs.Fates.{place_of}
@@ -149,7 +149,7 @@ all_behind number frames whole (x ∷ xs) (y ∷ ys) h = (
 all_behind number frames whole [] (y ∷ ys) h = absurd h
 all_behind number frames whole (x ∷ xs) [] h = absurd h
 
-module _ {E : Type 0} (moves : E → List Step → E → Type 0) (f : Stream → Stream) (number frames : ℕ) (whole : Bool)
+module _ {E : Type 0} (moves : E → List StoreStep → E → Type 0) (f : Stream → Stream) (number frames : ℕ) (whole : Bool)
     (book book' : Book) (seats seats' : List Seat) (clients : book'.clients.items ≡ book.clients.items)
     (sessions : book'.sessions ≡ book.sessions) (changed : book'.levels_changed ≡ book.levels_changed)
     (keeps : (n : ℕ) (e : Endpoint) → find (is_endpoint n) book.registry.list ≡ Some e →
@@ -164,7 +164,7 @@ module _ {E : Type 0} (moves : E → List Step → E → Type 0) (f : Stream →
         let within : q ≤ next_at n seats' = omega arith in
         subst (λ k. q ≤ next_at k seats') (sym same) within
 
-    still_on : (steps : List Step) (a b : StreamEntry E) → GoesBy moves f steps a b →
+    still_on : (steps : List StoreStep) (a b : StreamEntry E) → GoesBy moves f steps a b →
         StaysBehind number frames whole a b → IsOn a book.registry.list seats → IsOn b book'.registry.list seats'
     still_on steps a b goes near on =
         let kept = keeps a.endpoint.0 on.endpoint on.there in
@@ -184,7 +184,7 @@ module _ {E : Type 0} (moves : E → List Step → E → Type 0) (f : Stream →
               still_behind a.endpoint.0 b.endpoint.0 a.ever b.ever same (near.heard before) (on.hears before);
         }
 
-    one_belongs : (steps : List Step) (a b : StreamEntry E) → GoesBy moves f steps a b →
+    one_belongs : (steps : List StoreStep) (a b : StreamEntry E) → GoesBy moves f steps a b →
         StaysBehind number frames whole a b → Belongs book seats a → Belongs book' seats' b
     one_belongs steps a b goes near h =
         let client : b.client.0 ≡ a.client.0 = ap (λ c. c.0) goes.same.client in
@@ -205,7 +205,7 @@ module _ {E : Type 0} (moves : E → List Step → E → Type 0) (f : Stream →
               (sym goes.same.session) (ap (λ s. s.list) (sym sessions));
         }
 
-    pub all_belong : (steps : ℕ → List Step) (xs ys : List (StreamEntry E)) → AllGo moves f steps xs ys →
+    pub all_belong : (steps : ℕ → List StoreStep) (xs ys : List (StreamEntry E)) → AllGo moves f steps xs ys →
         AllZip (StaysBehind number frames whole) xs ys → AllByRecursion (Belongs book seats) xs →
         AllByRecursion (Belongs book' seats') ys
     all_belong steps [] [] h near belong = tt
@@ -217,8 +217,8 @@ module _ {E : Type 0} (moves : E → List Step → E → Type 0) (f : Stream →
 -- ---- the board
 
 -- after entries went on, and no count went beyond its endpoint's next place
-module _ {D E : Type 0} (moves : E → List Step → E → Type 0) (state : E → EndState) (b new : Board D E)
-    (order : InOrder state b) (f : Stream → Stream) (steps : ℕ → List Step) (number frames : ℕ) (whole : Bool)
+module _ {D E : Type 0} (moves : E → List StoreStep → E → Type 0) (state : E → EndState) (b new : Board D E)
+    (order : InOrder state b) (f : Stream → Stream) (steps : ℕ → List StoreStep) (number frames : ℕ) (whole : Bool)
     (went : AllGo moves f steps b.entries.items new.entries.items)
     (places : AllZip (StaysBehind number frames whole) b.entries.items new.entries.items)
     (next : (n : ℕ) → next_at n b.seats.items + (if whole && n == number then frames else 0)
@@ -247,7 +247,7 @@ module _ {D E : Type 0} (moves : E → List Step → E → Type 0) (state : E �
   }
 
 -- a period of an endpoint that plays
-module _ {D E : Type 0} (faults : D → ℕ) (told : D → Option (List DeviceLog)) (moves : E → List Step → E → Type 0)
+module _ {D E : Type 0} (faults : D → ℕ) (told : D → Option (List DeviceLog)) (moves : E → List StoreStep → E → Type 0)
     (state : E → EndState) (b new : Board D E) (order : InOrder state b) (number at : ℕ) (due : FindsDue number b at)
     (whole : Bool)
     (plays : Plays moves due.active.endpoint.no.0 (period_frames due.active.endpoint)

@@ -10,7 +10,7 @@ use Rattle.wave_format.specs.Frame.{frames_from}
 use Rattle.wave_format.proofs.BlockLaws.{length-frames_from}
 use Rattle.volume_stack.specs.Scaling.{unit_gain}
 use Rattle.buffer_ring.specs.declared.step.EndState.{EndState}
-use Rattle.buffer_ring.specs.declared.step.Step.{Step}
+use Rattle.buffer_ring.specs.declared.step.StoreStep.{StoreStep}
 use Rattle.ca_base.specs.declared.ids.Gate.TheVariants as gate
 use Rattle.ca_base.specs.declared.ids.Reason.TheVariants.{Removal}
 use Rattle.ca_stage.specs.Stage.{Frame, Stream, BufferData, is_render, no_data}
@@ -40,7 +40,7 @@ plays_here number e h = let at = is_here number is_render e h in (at.here, at.un
 
 -- ---- what the Sound needs
 
-module _ {E : Type 0} (moves : E → List Step → E → Type 0) (state : E → EndState) (number frames : ℕ) where
+module _ {E : Type 0} (moves : E → List StoreStep → E → Type 0) (state : E → EndState) (number frames : ℕ) where
   pub length_turned : (f : Stream → Stream) (xs ys : List (StreamEntry E)) → AllZip (Turned moves f) xs ys →
       length ys ≡ length xs
   length_turned f [] [] h = refl
@@ -195,7 +195,7 @@ module _ {E : Type 0} (moves : E → List Step → E → Type 0) (state : E → 
         subst (λ m. w ≤ x + Adds whole m) at
         (let sum : w ≤ x + Adds whole k = omega arith in sum)
 
-    pub all_near : (whole : Bool) (ss : ℕ → List Step) (xs ys zs ws : List (StreamEntry E)) →
+    pub all_near : (whole : Bool) (ss : ℕ → List StoreStep) (xs ys zs ws : List (StreamEntry E)) →
         AllZip (Turned moves (picks_on number frames)) xs ys → AllTakeSteps moves ss ys zs →
         All (IsPicked state number frames) zs → AllZip (Turned moves (ends_on number heard whole)) zs ws →
         AllZip (StaysNear number frames whole) xs ws
@@ -256,7 +256,7 @@ module _ {E : Type 0} (moves : E → List Step → E → Type 0) (state : E → 
 
   -- ---- the whole period
 
-  module _ (joins : (a b c : E) (s t : List Step) → moves a s b → moves b t c → moves a (s ++ t) c) (whole : Bool)
+  module _ (joins : (a b c : E) (s t : List StoreStep) → moves a s b → moves b t c → moves a (s ++ t) c) (whole : Bool)
       (ends bytes : List ℕ) (xs ys zs ws : List (StreamEntry E)) (faults faults' : ℕ)
       (told told' : Option (List DeviceLog)) (entries : AreEntries xs)
       (picks : AllZip (Turned moves (picks_on number frames)) xs ys)
@@ -268,16 +268,16 @@ module _ {E : Type 0} (moves : E → List Step → E → Type 0) (state : E → 
       abbrev heard : List Frame
       heard = frames_from frames (length ends) bytes
 
-      abbrev first_steps : ℕ → List Step
+      abbrev first_steps : ℕ → List StoreStep
       first_steps = steps_of moves (picks_on number frames) xs ys picks
 
-      abbrev last_steps : ℕ → List Step
+      abbrev last_steps : ℕ → List StoreStep
       last_steps = steps_of moves (ends_on number heard whole) zs ws endings
 
-      abbrev later_steps : ℕ → List Step
+      abbrev later_steps : ℕ → List StoreStep
       later_steps n = sounds.steps n ++ last_steps n
 
-      abbrev all_steps : ℕ → List Step
+      abbrev all_steps : ℕ → List StoreStep
       all_steps n = first_steps n ++ later_steps n
 
       first_go : AllGo moves (picks_on number frames) first_steps xs ys
@@ -303,7 +303,7 @@ module _ {E : Type 0} (moves : E → List Step → E → Type 0) (state : E → 
           (all_after moves joins (λ s. s) (ends_on number heard whole) sounds.steps last_steps ys zs ws sound_go
           last_go)
 
-      abbrev its_steps : ℕ → List Step
+      abbrev its_steps : ℕ → List StoreStep
       its_steps = within xs all_steps
 
       mixed_there : (datas : ℕ → BufferData) (m : Mixing) → AllAgree its_steps datas xs →

@@ -7,7 +7,7 @@ use Rattle.ca_base.specs.declared.codes.TheConstants.Hr as hr
 use Rattle.ca_base.specs.declared.ids.Flow.TheVariants as flow
 use Rattle.ca_base.specs.Rows.{first}
 use Rattle.buffer_ring.specs.declared.step.EndState.{EndState}
-use Rattle.buffer_ring.specs.declared.step.Step.{Step}
+use Rattle.buffer_ring.specs.declared.step.StoreStep.{StoreStep}
 use Rattle.ca_stage.specs.Stage.{BufferData, Stage, Stream}
 use Rattle.ca_stage.specs.Moves.{Move, after_moves}
 use Rattle.ca_stage.specs.Periods.{is_recording}
@@ -35,7 +35,7 @@ use Rattle.service_board.specs.InOrder.{InOrder}
 use Rattle.service_board.specs.Plays.{AllGo}
 use Rattle.service_board.specs.declared.board.Board.{Board}
 use Rattle.service_board.proofs.ByClient.{all_made, all_packed, are_after, streams_went}
-use Rattle.service_board.proofs.Doing.{add_none}
+use Rattle.service_board.proofs.PlainEvents.{add_none}
 use Rattle.service_board.proofs.DuePeriods.{rows_by}
 use Rattle.service_board.proofs.GivenPieces.{answers_given, answers_read, faults_given, fronts_given, joined_given}
 use Rattle.service_board.proofs.GivenPieces.{whole_given}
@@ -64,17 +64,17 @@ asked_is e n datas (x ∷ xs) = by (is_recorded n x) (asked_is e n datas xs)
 
 -- A period of an endpoint that captures, over entries. By steps of their stores, and of no other client, they went on
 -- as the period moves their streams; and what was asked of the device was given read by read, or it failed.
-pub record Records {E : Type 0} (moves : E → List Step → E → Type 0) (e : Endpoint) (whole : Bool)
+pub record Records {E : Type 0} (moves : E → List StoreStep → E → Type 0) (e : Endpoint) (whole : Bool)
     (pieces : List (List ℕ)) (old new : List (StreamEntry E)) (faults : ℕ) (told : Option (List DeviceLog))
     (faults' : ℕ) (told' : Option (List DeviceLog)) : Type 0 where
-  pub steps : ℕ → List Step
+  pub steps : ℕ → List StoreStep
   pub went : AllGo moves (recorded e (flat_map (λ piece. piece) pieces) whole) steps old new
   pub none : (client : ℕ) → store_at client old ≡ None → steps client ≡ []
   pub given : AreGiven (if list_any (is_recorded e.no.0) old then bytes_of e else 0) pieces whole
   pub tells : GivesFrom e.no.0 told pieces told'
   pub rises : RoseUnless whole faults faults'
 
-module _ {D E : Type 0} (faults : D → ℕ) (told : D → Option (List DeviceLog)) (moves : E → List Step → E → Type 0)
+module _ {D E : Type 0} (faults : D → ℕ) (told : D → Option (List DeviceLog)) (moves : E → List StoreStep → E → Type 0)
     (state : E → EndState) (b new : Board D E) (order : InOrder state b) (number at : ℕ) (due : FindsDue number b at)
     (whole : Bool) (pieces : List (List ℕ))
     (records : Records moves due.active.endpoint whole pieces b.entries.items new.entries.items (faults b.devices)

@@ -8,12 +8,12 @@ use Rattle.std.proofs.Math.Seq.{map-set_same}
 use Rattle.ca_base.specs.declared.codes.TheConstants.Hr as hr
 use Rattle.ca_base.specs.declared.ids.Flow.TheVariants as flow
 use Rattle.ca_base.specs.declared.ids.Reason.TheVariants.{Removal}
-use Rattle.ca_base.specs.declared.outside.Failed.{Failed}
+use Rattle.ca_base.specs.declared.environment.Failed.{Failed}
 use Rattle.ca_base.specs.declared.limits.TheConstants.{MAX_COUNT}
 use Rattle.ca_base.specs.declared.values.TheConstants.{STATE_NOTPRESENT}
 use Rattle.device_io.specs.DeviceLog.{DeviceLog}
 use Rattle.buffer_ring.specs.declared.step.EndState.{EndState}
-use Rattle.buffer_ring.specs.declared.step.Step.{Step}
+use Rattle.buffer_ring.specs.declared.step.StoreStep.{StoreStep}
 use Rattle.device_registry.specs.declared.endpoint.Endpoint.{Endpoint}
 use Rattle.device_registry.specs.Endpoints.{EndpointList, with_state}
 use Rattle.device_registry.specs.Changes.{with_changed}
@@ -48,7 +48,7 @@ pub none_read : {E : Type 0} (n : ℕ) (xs zs : List (StreamEntry E)) (found : B
     found ≡ list_any (is_recorded n) xs → found ≡ false → list_any (is_recorded n) zs ≡ false
 none_read n xs zs found p e h = ap (list_any (is_recorded n)) (sym p) ∙ sym e ∙ h
 
-module _ {D E : Type 0} (faults : D → ℕ) (told : D → Option (List DeviceLog)) (moves : E → List Step → E → Type 0)
+module _ {D E : Type 0} (faults : D → ℕ) (told : D → Option (List DeviceLog)) (moves : E → List StoreStep → E → Type 0)
     (state : E → EndState) (b : Board D E) (order : InOrder state b) (number at : ℕ) (due : FindsDue number b at)
     (captures : HasFlow flow.Capture b.book at)
   where
@@ -160,7 +160,7 @@ module _ {D E : Type 0} (faults : D → ℕ) (told : D → Option (List DeviceLo
         -- the device failed, and this was noted before it
         module _ (registry : EndpointList)
             (is : registry ≡ with_changed number (with_state STATE_NOTPRESENT) b.book.registry) (notes : Notes)
-            (joins : (a b c : E) (s t : List Step) → moves a s b → moves b t c → moves a (s ++ t) c)
+            (joins : (a b c : E) (s t : List StoreStep) → moves a s b → moves b t c → moves a (s ++ t) c)
             (ys : List (StreamEntry E)) (x : Failed) (some : list_any (is_recorded number) xs ≡ true)
             (gives : Captures moves number frames e.format.channels (Err x) xs ys (faults b.devices) (told b.devices)
             (faults devices) (told devices))

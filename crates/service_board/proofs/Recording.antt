@@ -10,8 +10,8 @@ use Rattle.ca_base.specs.declared.ids.Gate.TheVariants as gate
 use Rattle.ca_base.specs.declared.ids.Reason.TheVariants.{Removal}
 use Rattle.ca_base.specs.declared.ids.StreamKind.{StreamKind}
 use Rattle.ca_base.specs.declared.ids.StreamKind.TheVariants as kind
-use Rattle.ca_base.specs.declared.outside.Failed.{Failed}
-use Rattle.buffer_ring.specs.declared.step.Step.{Step}
+use Rattle.ca_base.specs.declared.environment.Failed.{Failed}
+use Rattle.buffer_ring.specs.declared.step.StoreStep.{StoreStep}
 use Rattle.ca_stage.specs.Given.{frames_given, whole_frames}
 use Rattle.ca_stage.specs.Stage.{Frame, Stream, is_capture, is_loopback, no_data}
 use Rattle.ca_stage.specs.Moves.{closed, fed, moved}
@@ -24,7 +24,8 @@ use Rattle.ca_machine.proofs.RecordedStage.{recorded}
 use Rattle.period_engine.specs.declared.entry.StreamEntry.{StreamEntry}
 use Rattle.period_engine.specs.Entries.{is_recorded, stream_with}
 use Rattle.period_engine.specs.Feeds.{AreGiven, Captures, feeds_given}
-use Rattle.period_engine.specs.SubSteps.{IsSameEntry, Turned}
+use Rattle.period_engine.specs.SubSteps.{Turned}
+use Rattle.period_engine.proofs.Turns.{same_but}
 use Rattle.service_board.specs.Closing.{closes_within}
 use Rattle.service_board.specs.Plays.{AllGo}
 use Rattle.service_board.proofs.ByClient.{all_after, all_turned, clients_of, clients_stay, go_alike, steps_of, within}
@@ -53,7 +54,7 @@ hears_none kind.Render l c = false≢true l
 hears_none kind.Capture l c = false≢true l
 hears_none kind.Loopback l c = false≢true c
 
-module _ {E : Type 0} (moves : E → List Step → E → Type 0) (e : Endpoint) (bytes : List ℕ) where
+module _ {E : Type 0} (moves : E → List StoreStep → E → Type 0) (e : Endpoint) (bytes : List ℕ) where
   -- what a period makes of a stream, if its device gave these bytes, or failed
   abbrev pub feeds : Bool → Stream → Stream
   feeds whole = feeds_given e.no.0 (period_frames e) e.format.channels bytes whole
@@ -143,7 +144,7 @@ module _ {E : Type 0} (moves : E → List Step → E → Type 0) (e : Endpoint) 
 
 -- ---- the whole period
 
-module _ {E : Type 0} (moves : E → List Step → E → Type 0) (e : Endpoint) (xs : List (StreamEntry E))
+module _ {E : Type 0} (moves : E → List StoreStep → E → Type 0) (e : Endpoint) (xs : List (StreamEntry E))
     (rises : RisesFrom 0 (clients_of xs)) (faults faults' : ℕ) (told told' : Option (List DeviceLog)) where
   -- an entry records the endpoint, and its device gave what it had
   pub whole_records : (ys : List (StreamEntry E)) (n : ℕ) → list_any (is_recorded e.no.0) xs ≡ true →
@@ -151,7 +152,7 @@ module _ {E : Type 0} (moves : E → List Step → E → Type 0) (e : Endpoint) 
       Records moves e true captures.pieces xs ys faults told faults' told'
   whole_records ys n some captures =
       let f : Stream → Stream = feeds moves e (flat_map (λ piece. piece) captures.pieces) true in
-      let s : ℕ → List Step = steps_of moves f xs ys captures.turned in
+      let s : ℕ → List StoreStep = steps_of moves f xs ys captures.turned in
       record {
         steps = within xs s;
         went =
@@ -164,7 +165,7 @@ module _ {E : Type 0} (moves : E → List Step → E → Type 0) (e : Endpoint) 
       }
 
   -- or its device failed
-  pub lost_records : (joins : (a b c : E) (s t : List Step) → moves a s b → moves b t c → moves a (s ++ t) c)
+  pub lost_records : (joins : (a b c : E) (s t : List StoreStep) → moves a s b → moves b t c → moves a (s ++ t) c)
       (ys zs : List (StreamEntry E)) (x : Failed) → list_any (is_recorded e.no.0) xs ≡ true →
       (captures : Captures moves e.no.0 (period_frames e) e.format.channels (Err x) xs ys faults told faults' told') →
       AllZip (Turned moves (closes_within Removal (Some e.no.0))) ys zs →
@@ -172,9 +173,9 @@ module _ {E : Type 0} (moves : E → List Step → E → Type 0) (e : Endpoint) 
   lost_records joins ys zs x some captures closes =
       let f : Stream → Stream = feeds moves e (flat_map (λ piece. piece) captures.pieces) false in
       let g : Stream → Stream = closes_within Removal (Some e.no.0) in
-      let s : ℕ → List Step = steps_of moves f xs ys captures.turned in
-      let t : ℕ → List Step = steps_of moves g ys zs closes in
-      let u : ℕ → List Step = λ n. s n ++ t n in
+      let s : ℕ → List StoreStep = steps_of moves f xs ys captures.turned in
+      let t : ℕ → List StoreStep = steps_of moves g ys zs closes in
+      let u : ℕ → List StoreStep = λ n. s n ++ t n in
       let first : AllGo moves f s xs ys = all_turned moves f 0 xs ys captures.turned rises in
       let rises' : RisesFrom 0 (clients_of ys) =
       subst (RisesFrom 0) (sym (clients_stay moves f s xs ys first)) rises in
@@ -192,24 +193,7 @@ module _ {E : Type 0} (moves : E → List Step → E → Type 0) (e : Endpoint) 
       }
 
 -- no entry records the endpoint: its device isn't asked, and nothing changes
-module _ {E : Type 0} (moves : E → List Step → E → Type 0) (stays : (a : E) → moves a [] a) (e : Endpoint) where
-  same_entry : (a : StreamEntry E) → IsSameEntry a a
-  same_entry a = record {
-    client = refl;
-    endpoint = refl;
-    kind = refl;
-    exclusive = refl;
-    event = refl;
-    channels = refl;
-    rate = refl;
-    buffer = refl;
-    period = refl;
-    room = refl;
-    latency = refl;
-    session = refl;
-    gains = refl;
-  }
-
+module _ {E : Type 0} (moves : E → List StoreStep → E → Type 0) (stays : (a : E) → moves a [] a) (e : Endpoint) where
   fed_none : (s : Stream) → is_recording e.no.0 s ≡ false → recorded e [] true s ≡ s
   fed_none s h =
       chosen (λ t. t ≡ s) (whole_frames e.format.channels [] == 0) s
@@ -222,7 +206,7 @@ module _ {E : Type 0} (moves : E → List Step → E → Type 0) (stays : (a : E
   idle_goes (x ∷ xs) none =
       let parts = or_parts (is_recorded e.no.0 x) (list_any (is_recorded e.no.0) xs) none in (
         record {
-          same = same_entry x;
+          same = same_but x x.store x.picked x.position x.offered x.ever x.after_gap;
           made = stays x.store;
           packs = tt;
           turns = λ d agrees. fed_none (stream_with d x) parts.0;

@@ -5,7 +5,7 @@ use Rattle.std.specs.Int.{w64, to_le_bytes}
 use Rattle.device_io.specs.DeviceLog.{DeviceLog}
 use Rattle.ca_base.specs.declared.codes.Hr.{Hr}
 use Rattle.ca_base.specs.declared.codes.TheConstants.Hr as hr
-use Rattle.buffer_ring.specs.declared.step.Step.{Step}
+use Rattle.buffer_ring.specs.declared.step.StoreStep.{StoreStep}
 use Rattle.event_notices.specs.declared.notice.NoticeFault.TheVariants as fault
 use Rattle.event_notices.specs.Calls.{Registers, Unregisters}
 use Rattle.event_notices.specs.Notices.{Notices, registered, unregistered}
@@ -19,9 +19,10 @@ use Rattle.service_board.specs.Board.{state_of}
 use Rattle.service_board.specs.Does.{AnyData, Does}
 use Rattle.service_board.specs.Lookups.{FindsNotices, Says}
 use Rattle.service_board.specs.declared.board.Board.{Board}
-use Rattle.service_board.proofs.Doing.{refused_does}
-use Rattle.service_board.proofs.Granting.{answers_granted}
-use Rattle.service_board.proofs.KeptNotices.{AreKept, kept_there, others_are, queue_does, queue_refused, same_are, with_queue}
+use Rattle.service_board.proofs.PlainEvents.{refused_does}
+use Rattle.service_board.proofs.GrantedEvents.{answers_granted}
+use Rattle.service_board.proofs.KeptNotices.{AreKept, kept_there, others_are, queue_does, queue_refused, same_are}
+use Rattle.service_board.proofs.KeptNotices.{with_queue}
 use Rattle.service_board.proofs.LookingUp.{says_front, says_later}
 use Rattle.service_board.proofs.Memory.{answers_found, answers_out_of_memory}
 
@@ -42,7 +43,7 @@ abbrev unregister_by : ℕ → ℕ → Notices → State → Plan
 unregister_by conn number q st =
     plain (control_rows conn st ++ unregister_rows number q) (release conn number q st)
 
-module _ {D E : Type 0} (faults : D → ℕ) (told : D → Option (List DeviceLog)) (moves : E → List Step → E → Type 0)
+module _ {D E : Type 0} (faults : D → ℕ) (told : D → Option (List DeviceLog)) (moves : E → List StoreStep → E → Type 0)
     (stays : (a : E) → moves a [] a) (b : Board D E) (conn : ℕ) where
   -- the connection isn't open, or the service was shut down
   pub register_unconnected : (class subject : ℕ) (code : Hr) → Says b (control_rows conn) (Some code) →
@@ -135,9 +136,9 @@ module _ {D E : Type 0} (faults : D → ℕ) (told : D → Option (List DeviceLo
                 datas tally;
             asks = refl;
             output = refl;
-            result-is = refl;
-            payload-is = refl;
-            after-is =
+            result_is = refl;
+            payload_is = refl;
+            after_is =
                 others_are b conn at q kept new b.drafts datas tally
                 ∙ ap (λ x. with_notices_of conn x st) h.1;
           }))

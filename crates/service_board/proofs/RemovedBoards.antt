@@ -12,7 +12,7 @@ use Rattle.ca_base.specs.declared.ids.Reason.TheVariants.{Removal}
 use Rattle.ca_base.specs.declared.limits.TheConstants.{ENDPOINTS}
 use Rattle.ca_base.specs.Rows.{first}
 use Rattle.buffer_ring.specs.declared.step.EndState.{EndState}
-use Rattle.buffer_ring.specs.declared.step.Step.{Step}
+use Rattle.buffer_ring.specs.declared.step.StoreStep.{StoreStep}
 use Rattle.ca_stage.specs.Stage.{BufferData, Playhead}
 use Rattle.ca_stage.specs.Moves.{after_moves}
 use Rattle.ca_stage.specs.Order.{RisesFrom, is_among}
@@ -37,8 +37,8 @@ use Rattle.service_board.specs.declared.board.Board.{Board}
 use Rattle.service_board.specs.declared.board.Seat.{Seat}
 use Rattle.service_board.proofs.Disconnecting.{close_moves, disconnects_does, heads_stay, stage_after, stage_before}
 use Rattle.service_board.proofs.DisconnectedOrder.{disconnected_order, other_book}
-use Rattle.service_board.proofs.Doing.{not_asked}
-use Rattle.service_board.proofs.Kept.{rises_kept}
+use Rattle.service_board.proofs.PlainEvents.{not_asked}
+use Rattle.service_board.proofs.KeptEntries.{rises_kept}
 use Rattle.service_board.proofs.RemovedSeats.{find_left, heads_left, seats_left, zip_left}
 
 -- the registry refuses nothing of an endpoint that is there
@@ -51,7 +51,7 @@ is_left : (n number m : ℕ) → (n == number) ≡ false → (m == n) ≡ true �
 is_left n number m other own =
     ap (λ k. not (k == number)) (eqb-true m n own) ∙ ap not other
 
-module _ {D E : Type 0} (moves : E → List Step → E → Type 0) (state : E → EndState) (b : Board D E)
+module _ {D E : Type 0} (moves : E → List StoreStep → E → Type 0) (state : E → EndState) (b : Board D E)
     (order : InOrder state b) (number : ℕ) (entries : Vec (StreamEntry E))
     (loses : Disconnects moves state true Removal (Some number) b.entries entries) (registry : EndpointList)
     (is : registry ≡ without number b.book.registry) (seats : Vec Seat)
@@ -95,7 +95,7 @@ module _ {D E : Type 0} (moves : E → List Step → E → Type 0) (state : E �
         result = refl;
         payload = refl;
         output = refl;
-        after-is =
+        after_is =
             ap (λ (r : EndpointList). book_state (record (b.book) { registry = r })
             (stage_after moves state b order true Removal (Some number) entries loses seats.items datas) after) is
             ∙ ap (λ stage. book_state (record (b.book) { registry = without number b.book.registry }) stage after)

@@ -4,7 +4,7 @@ use Rattle.std.proofs.Common.{if◌then◌else◌}
 use Rattle.std.specs.List.{AllZip}
 use Rattle.device_io.specs.DeviceLog.{DeviceLog}
 use Rattle.ca_base.specs.declared.codes.Hr.{Hr}
-use Rattle.buffer_ring.specs.declared.step.Step.{Step}
+use Rattle.buffer_ring.specs.declared.step.StoreStep.{StoreStep}
 use Rattle.ca_stage.specs.Stage.{BufferData}
 use Rattle.ca_stage.specs.Tally.{Tally}
 use Rattle.ca_stage.proofs.Lists.{all_of, map_alike}
@@ -50,7 +50,7 @@ module _ {E : Type 0} where
   layout_same n [] (y ∷ ys) h = absurd h
   layout_same n (x ∷ xs) [] h = absurd h
 
-  agree_same : (steps : ℕ → List Step) (datas : ℕ → BufferData) (xs ys : List (StreamEntry E)) →
+  agree_same : (steps : ℕ → List StoreStep) (datas : ℕ → BufferData) (xs ys : List (StreamEntry E)) →
       AllZip HasSameStream xs ys → AllAgree steps datas xs → AllAgree steps datas ys
   agree_same steps datas [] [] h agree = tt
   agree_same steps datas (x ∷ xs) (y ∷ ys) h agree = (
@@ -79,7 +79,7 @@ same_state old mid same datas tally =
       streams = streams;
     }) tally) (streams_same datas old.entries.items mid.entries.items same.entries)
 
-module _ {D E : Type 0} (faults : D → ℕ) (told : D → Option (List DeviceLog)) (moves : E → List Step → E → Type 0)
+module _ {D E : Type 0} (faults : D → ℕ) (told : D → Option (List DeviceLog)) (moves : E → List StoreStep → E → Type 0)
     (given : Option E) (known : (ℕ → BufferData) → Type 0) (old mid new : Board D E) (same : HasSameStreams old mid)
     (plan : State → Plan) (result : Hr) (payload : List ℕ)
     (made : Does faults told moves given known mid new plan result payload)

@@ -7,7 +7,7 @@ use Rattle.ca_base.specs.declared.limits.TheConstants.{CLIENTS}
 use Rattle.wave_format.specs.Frame.{frames_from}
 use Rattle.wave_format.proofs.FrameCuts.{frames_front}
 use Rattle.buffer_ring.specs.declared.step.EndState.{EndState}
-use Rattle.buffer_ring.specs.declared.step.Step.{Step}
+use Rattle.buffer_ring.specs.declared.step.StoreStep.{StoreStep}
 use Rattle.period_engine.specs.declared.entry.StreamEntry.{StreamEntry}
 use Rattle.ca_stage.specs.Periods.{fed_if, is_hearing}
 use Rattle.period_engine.specs.Entries.{AreEntries, IsPicked}
@@ -15,11 +15,11 @@ use Rattle.period_engine.specs.SubSteps.{Turned, retires_on}
 use Rattle.service_board.specs.InOrder.{InOrder}
 use Rattle.service_board.specs.Plays.{PicksAndSounds, Plays, ends_on}
 use Rattle.service_board.specs.declared.board.Board.{Board}
-use Rattle.service_board.proofs.Fewer.{are_entries}
+use Rattle.service_board.proofs.EntryCounts.{are_entries}
 use Rattle.service_board.proofs.HeardEntries.{FeedsHeard, all_end, still_feed}
 use Rattle.service_board.proofs.Playing.{plays}
 
-module _ {D E : Type 0} (moves : E → List Step → E → Type 0) (state : E → EndState) (b : Board D E)
+module _ {D E : Type 0} (moves : E → List StoreStep → E → Type 0) (state : E → EndState) (b : Board D E)
     (order : InOrder state b) (xs : List (StreamEntry E)) (read : xs ≡ b.entries.items) where
   -- the entries of a board in order
   pub entries_read : AreEntries xs
@@ -29,7 +29,7 @@ module _ {D E : Type 0} (moves : E → List Step → E → Type 0) (state : E �
   pub few_left : (zs : List (StreamEntry E)) → length zs ≡ length xs → length zs ≤ CLIENTS
   few_left zs size = omega (arith, size, entries_read.count)
 
-  module _ (joins : (a b c : E) (s t : List Step) → moves a s b → moves b t c → moves a (s ++ t) c)
+  module _ (joins : (a b c : E) (s t : List StoreStep) → moves a s b → moves b t c → moves a (s ++ t) c)
       (number frames : ℕ) (whole : Bool) (ends bytes : List ℕ) (zs ws : List (StreamEntry E)) (faults faults' : ℕ)
       (told told' : Option (List DeviceLog))
       (sounded : PicksAndSounds moves number frames ends bytes whole xs zs faults told faults' told')
@@ -49,7 +49,7 @@ module _ {D E : Type 0} (moves : E → List Step → E → Type 0) (state : E �
       sym (frames_front frames channels bytes) ∙ ap (λ n. frames_from frames channels (take n bytes)) size
 
   -- what was picked is rendered, and those who hear are offered what was written
-  module _ (joins : (a b c : E) (s t : List Step) → moves a s b → moves b t c → moves a (s ++ t) c)
+  module _ (joins : (a b c : E) (s t : List StoreStep) → moves a s b → moves b t c → moves a (s ++ t) c)
       (number frames : ℕ) (ends bytes : List ℕ) (zs rs : List (StreamEntry E)) (faults faults' : ℕ)
       (told told' : Option (List DeviceLog))
       (sounded : PicksAndSounds moves number frames ends (take (2 * (frames * length ends)) bytes) true xs zs faults

@@ -7,21 +7,22 @@ use Rattle.std.proofs.lemmas.Bool.{le-leb, le-ltb, lt-leb, lt-ltb, or_from, or_l
 use Rattle.device_io.specs.DeviceLog.{DeviceLog}
 use Rattle.ca_base.specs.declared.codes.TheConstants.Hr as hr
 use Rattle.ca_base.specs.declared.limits.TheConstants.{MAX_LEVEL}
-use Rattle.buffer_ring.specs.declared.step.Step.{Step}
+use Rattle.buffer_ring.specs.declared.step.StoreStep.{StoreStep}
 use Rattle.ca_stage.specs.Order.{RisesFrom}
 use Rattle.ca_stage.specs.Stage.{Stream}
 use Rattle.ca_machine.specs.declared.state.Client.{Client}
 use Rattle.ca_machine.specs.State.{State, live_clients}
 use Rattle.ca_machine.specs.Plan.{Outcome, answered, granted}
 use Rattle.ca_machine.specs.SharedRows.{with_stream}
-use Rattle.ca_machine.specs.Streams.{get_stream_level_plan, get_stream_level_rows, set_stream_level_plan, set_stream_level_rows, stream_level, with_stream_level}
+use Rattle.ca_machine.specs.Streams.{get_stream_level_plan, get_stream_level_rows, set_stream_level_plan}
+use Rattle.ca_machine.specs.Streams.{set_stream_level_rows, stream_level, with_stream_level}
 use Rattle.period_engine.specs.declared.entry.StreamEntry.{StreamEntry}
 use Rattle.service_book.proofs.Rows.{row_holds, row_passes}
 use Rattle.service_board.specs.Board.{state_of}
 use Rattle.service_board.specs.Does.{AnyData, Does}
 use Rattle.service_board.specs.declared.board.Board.{Board}
 use Rattle.service_board.proofs.EndpointCalls.{plain_tells}
-use Rattle.service_board.proofs.Granting.{book_does}
+use Rattle.service_board.proofs.GrantedEvents.{book_does}
 use Rattle.service_board.proofs.SettingLevels.{Named, leveled_at, leveled_items}
 use Rattle.service_board.proofs.StreamRows.{Opened, own_refused, stream_own}
 
@@ -47,7 +48,7 @@ abbrev pub sets_level : ℕ → ℕ → ℕ → ℕ → State → Stream → Out
 sets_level conn client channel level st s =
     granted [] [] (record st { clients = with_stream_level conn client channel level st.clients })
 
-module _ {D E : Type 0} (faults : D → ℕ) (told : D → Option (List DeviceLog)) (moves : E → List Step → E → Type 0)
+module _ {D E : Type 0} (faults : D → ℕ) (told : D → Option (List DeviceLog)) (moves : E → List StoreStep → E → Type 0)
     (stays : (a : E) → moves a [] a) (b : Board D E) (conn client channel at : ℕ) (e : StreamEntry E)
     (there : Opened conn client b at e) where
   -- the stream has no such channel
@@ -104,9 +105,9 @@ module _ {D E : Type 0} (faults : D → ℕ) (told : D → Option (List DeviceLo
               (row_passes (nat_le e.channels channel || nat_lt MAX_LEVEL level) hr.E_INVALIDARG None right refl);
           asks = refl;
           output = ap (λ o. o.output) tells;
-          result-is = sym (ap (λ o. o.result) tells);
-          payload-is = sym (ap (λ o. o.payload) tells);
-          after-is = ap (λ cs. record st { clients = cs })
+          result_is = sym (ap (λ o. o.result) tells);
+          payload_is = sym (ap (λ o. o.payload) tells);
+          after_is = ap (λ cs. record st { clients = cs })
               (leveled_items conn client channel level b.book place c named rises)
               ∙ sym (ap (λ o. o.after) tells);
         })

@@ -2,9 +2,10 @@
 use Rattle.std.proofs.Common.{◌≡◌, ℕ, ◌≤◌, ◌==◌, ◌&&◌, List, [], ◌∷◌, map, set, get_or, Bool}
 use Rattle.std.proofs.Common.{Option, Some, None, refl, sym, ap, ap₂, subst, ◌∙◌, if◌then◌else◌, arith, eq-eqb}
 use Rattle.std.specs.List.{All, AllZip, find, slice_get}
-use Rattle.std.specs.Vec.{vec_capacity}
+use Rattle.std.specs.Vec.{vec_capacity, with_item}
 use Rattle.std.proofs.Math.Seq.{map-set_same}
 use Rattle.std.proofs.lemmas.Bool.{ne_eqb}
+use Rattle.std.proofs.lemmas.List.{set-set}
 use Rattle.std.proofs.lemmas.List.Elements.{All-set}
 use Rattle.std.proofs.lemmas.Option.{get_or_from_slice_get, same_Some, slice_get_within}
 use Rattle.device_io.specs.DeviceLog.{DeviceLog}
@@ -14,7 +15,7 @@ use Rattle.ca_base.specs.declared.limits.TheConstants.{CLIENTS, ENDPOINTS, NOTIC
 use Rattle.ca_base.specs.Rows.{Row, first}
 use Rattle.volume_stack.specs.Scaling.{unit_gain}
 use Rattle.buffer_ring.specs.declared.step.EndState.{EndState}
-use Rattle.buffer_ring.specs.declared.step.Step.{Step}
+use Rattle.buffer_ring.specs.declared.step.StoreStep.{StoreStep}
 use Rattle.ca_stage.specs.Stage.{BufferData, Stream, is_loopback, is_open, is_open_gate}
 use Rattle.ca_stage.specs.Moves.{StreamMove, of_client, moved, playhead_after, stream_after}
 use Rattle.ca_stage.specs.Order.{RisesFrom}
@@ -42,10 +43,10 @@ use Rattle.service_book.specs.declared.book.Book.{Book}
 use Rattle.service_board.specs.InOrder.{IsOn, Belongs, InOrder, Seats, next_at, suits}
 use Rattle.service_board.specs.declared.board.Board.{Board}
 use Rattle.service_board.specs.declared.board.Seat.{Seat}
-use Rattle.service_board.proofs.Doing.{answers_refused}
+use Rattle.service_board.proofs.PlainEvents.{answers_refused}
 use Rattle.service_board.proofs.OneEntry.{IsSole, agrees_found, layout_found, made_only, only, only_here, packs_only}
 use Rattle.service_board.proofs.OneEntry.{sole_there, streams_set}
-use Rattle.service_board.proofs.Granting.{answers_granted}
+use Rattle.service_board.proofs.GrantedEvents.{answers_granted}
 use Rattle.service_board.proofs.StreamRows.{Opened, grants_outcome, stream_own}
 
 -- the entry at a place became this one, and nothing else was changed
@@ -57,6 +58,32 @@ pub record ChangesOne {D E : Type 0} (at : ℕ) (changed : StreamEntry E) (old n
   pub draft_room : vec_capacity new.drafts ≡ vec_capacity old.drafts
   pub entries : new.entries.items ≡ set old.entries.items at changed
   pub room : vec_capacity new.entries ≡ vec_capacity old.entries
+
+-- a board in whose entries this one was put at a place
+pub sets_one : {D E : Type 0} (b : Board D E) (at : ℕ) (e : StreamEntry E) →
+    ChangesOne at e b (record b { entries = with_item b.entries at e })
+sets_one b at e = record {
+  devices = refl;
+  book = refl;
+  seats = refl;
+  seat_room = refl;
+  draft_room = refl;
+  entries = refl;
+  room = refl;
+}
+
+-- and one in which it was put in place of another that was put there
+pub sets_again : {D E : Type 0} (b : Board D E) (at : ℕ) (x e : StreamEntry E) →
+    ChangesOne at e b (record b { entries = with_item (with_item b.entries at x) at e })
+sets_again b at x e = record {
+  devices = refl;
+  book = refl;
+  seats = refl;
+  seat_room = refl;
+  draft_room = refl;
+  entries = set-set b.entries.items at x e;
+  room = refl;
+}
 
 -- an entry like one that is on its endpoint is on it, if its counts aren't beyond
 pub on_kept : {E : Type 0} (endpoints : List Endpoint) (seats : List Seat) (a b : StreamEntry E) → IsSameEntry a b →
@@ -126,12 +153,12 @@ order_kept state old new at a b here opens one same rested before offered order 
     }
 
 -- the step of a machine that the entry's change is
-module _ {D E : Type 0} (faults : D → ℕ) (told : D → Option (List DeviceLog)) (moves : E → List Step → E → Type 0)
+module _ {D E : Type 0} (faults : D → ℕ) (told : D → Option (List DeviceLog)) (moves : E → List StoreStep → E → Type 0)
     (stays : (a : E) → moves a [] a) (old new : Board D E) (conn at : ℕ) (a b : StreamEntry E)
     (there : Opened conn a.client.0 old at a) (rises : AreInOrder old.entries.items) (one : ChangesOne at b old new)
-    (same : b.client ≡ a.client) (ss : List Step) (made : moves a.store ss b.store)
+    (same : b.client ≡ a.client) (ss : List StoreStep) (made : moves a.store ss b.store)
     (packs : ArePacked (layout_of a) ss) where
-  abbrev steps : ℕ → List Step
+  abbrev steps : ℕ → List StoreStep
   steps = only a.client.0 ss
 
   sole : IsSole a old.entries.items at
@@ -166,7 +193,7 @@ module _ {D E : Type 0} (faults : D → ℕ) (told : D → Option (List DeviceLo
         ap (λ x. data_after (layout_at n old.entries.items) (if x then ss else []) (datas n))
         (ne_eqb a.client.0 n other)
 
-    -- the state afterwards, where f moves the stream and leaves the others
+    -- the state afterwards, if f moves the stream and leaves the others
     state_after : (f : Stream → Stream) → ((s : Stream) → (s.client ≡ a.client.0 → ⊥) → f s ≡ s) →
         f (stream_of datas a) ≡ stream_with (data_after (layout_of a) ss (datas a.client.0)) b → (tally : Tally) →
         state_of datas' tally new
@@ -302,47 +329,11 @@ rested_at state b at e here order =
     subst (IsRested state) (get_or_from_slice_get b.entries.items at e e here)
     (order.rested at e (slice_get_within b.entries.items at e here))
 
--- an entry that runs, or doesn't
-abbrev pub with_running : {E : Type 0} → Bool → StreamEntry E → StreamEntry E
-with_running runs e = record e { running = runs }
-
-pub same_running : {E : Type 0} (runs : Bool) (e : StreamEntry E) → IsSameEntry e (with_running runs e)
-same_running runs e = record {
-  client = refl;
-  endpoint = refl;
-  kind = refl;
-  exclusive = refl;
-  event = refl;
-  channels = refl;
-  rate = refl;
-  buffer = refl;
-  period = refl;
-  room = refl;
-  latency = refl;
-  session = refl;
-  gains = refl;
-}
-
-pub rested_running : {E : Type 0} (state : E → EndState) (runs : Bool) (e : StreamEntry E) → IsRested state e →
-    IsRested state (with_running runs e)
-rested_running state runs e h = record {
-  fits = record {
-    gate = h.fits.gate;
-    size = h.fits.size;
-    position = h.fits.position;
-    offered = h.fits.offered;
-    ever = h.fits.ever;
-    some_channel = h.fits.some_channel;
-    few_channels = h.fits.few_channels;
-  };
-  unpicked = h.unpicked;
-}
-
 -- the same by the number that a call names
-module _ {D E : Type 0} (faults : D → ℕ) (told : D → Option (List DeviceLog)) (moves : E → List Step → E → Type 0)
+module _ {D E : Type 0} (faults : D → ℕ) (told : D → Option (List DeviceLog)) (moves : E → List StoreStep → E → Type 0)
     (stays : (a : E) → moves a [] a) (old new : Board D E) (conn client at : ℕ) (a b : StreamEntry E)
     (there : Opened conn client old at a) (rises : AreInOrder old.entries.items) (one : ChangesOne at b old new)
-    (same : b.client ≡ a.client) (ss : List Step) (made : moves a.store ss b.store)
+    (same : b.client ≡ a.client) (ss : List StoreStep) (made : moves a.store ss b.store)
     (packs : ArePacked (layout_of a) ss) (rows : Option Stream → List (Row Hr)) (known : BufferData → Type 0)
   where
     pub move_done : (m : StreamMove) →

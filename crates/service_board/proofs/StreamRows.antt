@@ -7,7 +7,7 @@ use Rattle.ca_base.specs.declared.codes.Hr.{Hr}
 use Rattle.ca_base.specs.declared.codes.TheConstants.Hr as hr
 use Rattle.ca_base.specs.declared.ids.Gate.TheVariants as gate
 use Rattle.ca_base.specs.Rows.{Row, first}
-use Rattle.buffer_ring.specs.declared.step.Step.{Step}
+use Rattle.buffer_ring.specs.declared.step.StoreStep.{StoreStep}
 use Rattle.ca_stage.specs.Stage.{BufferData, Stream}
 use Rattle.ca_stage.specs.Moves.{stream_at}
 use Rattle.ca_stage.specs.Tally.{Tally}
@@ -23,8 +23,8 @@ use Rattle.service_board.specs.Board.{state_of}
 use Rattle.service_board.specs.Does.{Does, store_at}
 use Rattle.service_board.specs.Lookups.{FindsStream, Says, stream_call_rows}
 use Rattle.service_board.specs.declared.board.Board.{Board}
-use Rattle.service_board.proofs.Doing.{answers_refused, made_still, refused_does}
-use Rattle.service_board.proofs.Granting.{Grants, answers_granted}
+use Rattle.service_board.proofs.PlainEvents.{answers_refused, made_still, refused_does}
+use Rattle.service_board.proofs.GrantedEvents.{Grants, answers_granted}
 use Rattle.service_board.proofs.LookingUp.{says_front}
 
 -- an event that no row refuses and that asks nothing gets what its plan grants
@@ -34,9 +34,9 @@ grants_outcome plan o row asks grants output = record {
   passes = row;
   asks = asks;
   output = ap (λ x. x.output) grants ∙ output;
-  result-is = sym (ap (λ x. x.result) grants);
-  payload-is = sym (ap (λ x. x.payload) grants);
-  after-is = sym (ap (λ x. x.after) grants);
+  result_is = sym (ap (λ x. x.result) grants);
+  payload_is = sym (ap (λ x. x.payload) grants);
+  after_is = sym (ap (λ x. x.after) grants);
 }
 
 -- the entry of a call's stream, as it is read by its place
@@ -77,7 +77,7 @@ module _ {D E : Type 0} (b : Board D E) (conn client : ℕ) (rows : Option Strea
       ∙ ap (λ o. first (rows o)) (there.found datas tally) ∙ own
 
 -- calls that leave the board as it was
-module _ {D E : Type 0} (faults : D → ℕ) (told : D → Option (List DeviceLog)) (moves : E → List Step → E → Type 0)
+module _ {D E : Type 0} (faults : D → ℕ) (told : D → Option (List DeviceLog)) (moves : E → List StoreStep → E → Type 0)
     (stays : (a : E) → moves a [] a) (b : Board D E) (conn client : ℕ) (rows : Option Stream → List (Row Hr))
     (outcome : State → Stream → Outcome) (known : (ℕ → BufferData) → Type 0) where
   pub stream_refused : (code : Hr) → Says b (stream_call_rows conn client) (Some code) →

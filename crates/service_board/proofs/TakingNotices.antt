@@ -3,7 +3,7 @@ use Rattle.std.proofs.Common.{◌≡◌, ℕ, get_or, List, [], Option, None, re
 use Rattle.std.specs.Global.{Vec}
 use Rattle.device_io.specs.DeviceLog.{DeviceLog}
 use Rattle.ca_base.specs.declared.codes.TheConstants.Hr as hr
-use Rattle.buffer_ring.specs.declared.step.Step.{Step}
+use Rattle.buffer_ring.specs.declared.step.StoreStep.{StoreStep}
 use Rattle.event_notices.specs.declared.notice.Notice.{Notice}
 use Rattle.event_notices.specs.Notices.{Notices, first_notices, taken}
 use Rattle.ca_machine.specs.Plan.{Plan, granted, plain}
@@ -14,7 +14,7 @@ use Rattle.service_board.specs.Board.{state_of}
 use Rattle.service_board.specs.Does.{AnyData, Does}
 use Rattle.service_board.specs.Lookups.{FindsNotices}
 use Rattle.service_board.specs.declared.board.Board.{Board}
-use Rattle.service_board.proofs.Granting.{answers_granted}
+use Rattle.service_board.proofs.GrantedEvents.{answers_granted}
 use Rattle.service_board.proofs.KeptNotices.{kept_there, others_are, queue_does, with_queue}
 
 -- the plan, by the notices of the connection
@@ -25,7 +25,7 @@ take_by conn max q st =
 
 -- the first ones are told, and the others are left
 pub take_done : {D E : Type 0} (faults : D → ℕ) (told : D → Option (List DeviceLog))
-    (moves : E → List Step → E → Type 0) (stays : (a : E) → moves a [] a) (b : Board D E) (conn max at : ℕ)
+    (moves : E → List StoreStep → E → Type 0) (stays : (a : E) → moves a [] a) (b : Board D E) (conn max at : ℕ)
     (q new : Notices) → FindsNotices conn (connection_rows conn) b at → q ≡ get_or b.book.notices.items at q →
     (drafts : Vec Notice) (lost : ℕ) → lost ≡ q.lost → drafts.items ≡ first_notices max q → new ≡ taken max q →
     Does faults told moves None AnyData b (with_queue at new drafts b) (λ st. take_notices_plan st conn max) hr.S_OK
@@ -42,8 +42,8 @@ take_done faults told moves stays b conn max at q new found read drafts lost los
       passes = found.says datas tally;
       asks = refl;
       output = refl;
-      result-is = refl;
-      payload-is = ap₂ notices_payload lost_is firsts;
-      after-is =
+      result_is = refl;
+      payload_is = ap₂ notices_payload lost_is firsts;
+      after_is =
           others_are b conn at q kept new drafts datas tally ∙ ap (λ x. with_notices_of conn x st) left;
     }))

@@ -12,7 +12,7 @@ use Rattle.ca_base.specs.declared.codes.TheConstants.Hr as hr
 use Rattle.ca_base.specs.declared.ids.EndpointNo.{EndpointNo}
 use Rattle.ca_base.specs.declared.values.TheConstants.{FLOW_CAPTURE, ROLE_COMMUNICATIONS}
 use Rattle.ca_base.specs.Rows.{Row, first}
-use Rattle.buffer_ring.specs.declared.step.Step.{Step}
+use Rattle.buffer_ring.specs.declared.step.StoreStep.{StoreStep}
 use Rattle.ca_stage.specs.Stage.{BufferData}
 use Rattle.ca_stage.specs.Tally.{Tally}
 use Rattle.device_registry.specs.declared.endpoint.Endpoint.{Endpoint}
@@ -22,12 +22,14 @@ use Rattle.role_defaults.specs.Defaults.{answered as chosen_or_not}
 use Rattle.ca_machine.specs.State.{State, endpoint_at}
 use Rattle.ca_machine.specs.Plan.{Outcome, answered, plain}
 use Rattle.ca_machine.specs.SharedRows.{control_rows}
-use Rattle.ca_machine.specs.Endpoints.{default_at, device_info_plan, endpoint_named, endpoint_payload, endpoint_told, endpoints_payload, enum_endpoints_plan, get_default_plan, get_device_plan, id_of, is_wrong_enumeration, number_told}
+use Rattle.ca_machine.specs.Endpoints.{default_at, device_info_plan, endpoint_named, endpoint_payload, endpoint_told}
+use Rattle.ca_machine.specs.Endpoints.{endpoints_payload, enum_endpoints_plan, get_default_plan, get_device_plan, id_of}
+use Rattle.ca_machine.specs.Endpoints.{is_wrong_enumeration, number_told}
 use Rattle.service_board.specs.Board.{state_of}
 use Rattle.service_board.specs.Does.{AnyData, Does}
 use Rattle.service_board.specs.Lookups.{Says}
 use Rattle.service_board.specs.declared.board.Board.{Board}
-use Rattle.service_board.proofs.Doing.{refused_does}
+use Rattle.service_board.proofs.PlainEvents.{refused_does}
 use Rattle.service_board.proofs.EndpointCalls.{plain_tells}
 use Rattle.service_board.proofs.LookingUp.{says_later}
 
@@ -62,7 +64,7 @@ abbrev pub default_rows : ℕ → ℕ → Option ℕ → List (Row Hr)
 default_rows flow role found =
     (nat_lt FLOW_CAPTURE flow || nat_lt ROLE_COMMUNICATIONS role, hr.E_INVALIDARG) ∷ (is_none found, hr.E_NOTFOUND) ∷ []
 
-module _ {D E : Type 0} (faults : D → ℕ) (told : D → Option (List DeviceLog)) (moves : E → List Step → E → Type 0)
+module _ {D E : Type 0} (faults : D → ℕ) (told : D → Option (List DeviceLog)) (moves : E → List StoreStep → E → Type 0)
     (stays : (a : E) → moves a [] a) (b : Board D E) (conn : ℕ) (connected : Says b (control_rows conn) None) where
   -- a row of the call's own refuses it
   own_refused : (rows : State → List (Row Hr)) (outcome : State → Outcome) (code : Hr) → Says b rows (Some code) →
@@ -108,7 +110,8 @@ module _ {D E : Type 0} (faults : D → ℕ) (told : D → Option (List DeviceLo
       (λ st. number_told st (default_at flow role st)) hr.E_INVALIDARG
       (λ datas tally.
       ap (λ v. if v then Some hr.E_INVALIDARG
-      else first ((is_none (default_of b.book.registry.list b.book.choices flow role), hr.E_NOTFOUND) ∷ [])) (sym wrong))
+      else first ((is_none (default_of b.book.registry.list b.book.choices flow role), hr.E_NOTFOUND) ∷ []))
+      (sym wrong))
 
   -- one is looked up, by a flow of this number
   module _ (flow role number : ℕ) (right : false ≡ (nat_lt FLOW_CAPTURE flow || nat_lt ROLE_COMMUNICATIONS role))
@@ -120,7 +123,8 @@ module _ {D E : Type 0} (faults : D → ℕ) (told : D → Option (List DeviceLo
         Says b (λ st. default_rows flow role (default_at flow role st)) verdict
     default_says found verdict finds says datas tally =
         ap (λ v. if v then Some hr.E_INVALIDARG
-        else first ((is_none (default_of b.book.registry.list b.book.choices flow role), hr.E_NOTFOUND) ∷ [])) (sym right)
+        else first ((is_none (default_of b.book.registry.list b.book.choices flow role), hr.E_NOTFOUND) ∷ []))
+        (sym right)
         ∙ ap (λ o. if is_none o then Some hr.E_NOTFOUND else None) finds ∙ says
 
     -- there is none

@@ -8,7 +8,7 @@ use Rattle.ca_base.specs.declared.codes.Hr.{Hr}
 use Rattle.ca_base.specs.declared.codes.TheConstants.Hr as hr
 use Rattle.ca_base.specs.declared.values.TheConstants.{SESSION_ACTIVE, SESSION_EXPIRED, SESSION_INACTIVE}
 use Rattle.ca_base.specs.Rows.{Row, first}
-use Rattle.buffer_ring.specs.declared.step.Step.{Step}
+use Rattle.buffer_ring.specs.declared.step.StoreStep.{StoreStep}
 use Rattle.ca_stage.specs.Stage.{BufferData}
 use Rattle.session_manager.specs.declared.session.Session.{Session}
 use Rattle.session_manager.specs.Rows.{found_rows}
@@ -18,7 +18,8 @@ use Rattle.ca_machine.specs.State.{State, endpoint_at}
 use Rattle.device_registry.specs.Endpoints.{is_endpoint}
 use Rattle.ca_machine.specs.Plan.{Outcome, answered, plain}
 use Rattle.ca_machine.specs.SharedRows.{control_rows}
-use Rattle.ca_machine.specs.Sessions.{enum_sessions_plan, get_session_plan, numbers_payload, session_payload, state_of_session, with_session}
+use Rattle.ca_machine.specs.Sessions.{enum_sessions_plan, get_session_plan, numbers_payload, session_payload}
+use Rattle.ca_machine.specs.Sessions.{state_of_session, with_session}
 use Rattle.period_engine.specs.declared.entry.StreamEntry.{StreamEntry}
 use Rattle.period_engine.specs.Entries.{stream_of, streams_of}
 use Rattle.service_book.proofs.Finding.{found_at, none_at}
@@ -26,9 +27,9 @@ use Rattle.service_board.specs.Board.{state_of}
 use Rattle.service_board.specs.Does.{AnyData, Does}
 use Rattle.service_board.specs.Lookups.{Says}
 use Rattle.service_board.specs.declared.board.Board.{Board}
-use Rattle.service_board.proofs.Doing.{refused_does}
+use Rattle.service_board.proofs.PlainEvents.{refused_does}
 use Rattle.service_board.proofs.EndpointCalls.{plain_tells}
-use Rattle.service_board.proofs.Kept.{any_mapped}
+use Rattle.service_board.proofs.KeptEntries.{any_mapped}
 use Rattle.service_board.proofs.LookingUp.{says_front, says_later}
 
 -- the state of a session, by its entries
@@ -51,7 +52,7 @@ endpoint_tested endpoint list (Some at) e =
 
 -- ---- what the calls answer
 
-module _ {D E : Type 0} (faults : D → ℕ) (told : D → Option (List DeviceLog)) (moves : E → List Step → E → Type 0)
+module _ {D E : Type 0} (faults : D → ℕ) (told : D → Option (List DeviceLog)) (moves : E → List StoreStep → E → Type 0)
     (stays : (a : E) → moves a [] a) (b : Board D E) (conn : ℕ) where
   -- the connection isn't open
   pub told_unconnected : (rows : State → List (Row Hr)) (outcome : State → Outcome) (code : Hr) →

@@ -1,4 +1,4 @@
--- The endpoint of a call's client, and which row refuses where it can't be used.
+-- The endpoint of a call's client, and which row refuses if it can't be used.
 use Rattle.std.proofs.Common.{◌≡◌, ℕ, ◌||◌, List, Bool, true, false, not, Option, Some, None, refl, sym, ap, ◌∙◌}
 use Rattle.std.proofs.Common.{get_or}
 use Rattle.std.proofs.Common.{◌==◌, ap₂, ◌∷◌, eq-eqb, eqb-true, if◌then◌else◌, is_none}

@@ -22,15 +22,15 @@ IsPlainCall (call.GetSession s) = ⊥
 IsPlainCall _ = Unit {0}
 
 -- a call whose payload is a few bytes
-abbrev pub IsShortCall : Call → Type 0
-IsShortCall (call.CaptureGetBuffer c) = ⊥
-IsShortCall (call.EnumSessions e) = ⊥
-IsShortCall (call.GetSession s) = ⊥
-IsShortCall (call.EnumEndpoints flow mask) = ⊥
-IsShortCall (call.DeviceInfo e) = ⊥
-IsShortCall (call.TakeNotices max) = ⊥
-IsShortCall (call.AwaitNotices max) = ⊥
-IsShortCall _ = Unit {0}
+abbrev pub IsSmallCall : Call → Type 0
+IsSmallCall (call.CaptureGetBuffer c) = ⊥
+IsSmallCall (call.EnumSessions e) = ⊥
+IsSmallCall (call.GetSession s) = ⊥
+IsSmallCall (call.EnumEndpoints flow mask) = ⊥
+IsSmallCall (call.DeviceInfo e) = ⊥
+IsSmallCall (call.TakeNotices max) = ⊥
+IsSmallCall (call.AwaitNotices max) = ⊥
+IsSmallCall _ = Unit {0}
 
 -- a call that changes a session
 abbrev pub IsSessionCall : Call → Type 0

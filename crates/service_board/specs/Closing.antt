@@ -7,7 +7,7 @@ use Rattle.std.specs.Vec.{vec_capacity}
 use Rattle.ca_base.specs.declared.ids.EndpointNo.{EndpointNo}
 use Rattle.ca_base.specs.declared.ids.Reason.{Reason}
 use Rattle.buffer_ring.specs.declared.step.EndState.{EndState}
-use Rattle.buffer_ring.specs.declared.step.Step.{Step}
+use Rattle.buffer_ring.specs.declared.step.StoreStep.{StoreStep}
 use Rattle.ca_stage.specs.Stage.{Stream, is_open, no_data}
 use Rattle.ca_stage.specs.Moves.{closed, moved}
 use Rattle.ca_machine.specs.Devices.{is_within}
@@ -42,7 +42,7 @@ pub record IsClosable {E : Type 0} (state : E → EndState) (scope : Option ℕ)
   pub unpicked : is_entry_within scope e ≡ false → e.picked ≡ 0
 
 -- if something is lost, the streams that were open within a scope are closed; entries stay in their places
-pub record Disconnects {E : Type 0} (moves : E → List Step → E → Type 0) (state : E → EndState) (lost : Bool)
+pub record Disconnects {E : Type 0} (moves : E → List StoreStep → E → Type 0) (state : E → EndState) (lost : Bool)
     (reason : Reason) (scope : Option ℕ) (old new : Vec (StreamEntry E)) : Type 0
   where
     pub turned : AllZip (Turned moves (closes_if lost reason scope)) old.items new.items

@@ -3,7 +3,7 @@
 use Rattle.std.specs.Prelude.{◌≡◌, ℕ, ◌==◌, List, [], ◌∷◌, true, Option, Some, None, if◌then◌else◌}
 use Rattle.device_io.specs.DeviceLog.{DeviceLog}
 use Rattle.ca_base.specs.declared.codes.Hr.{Hr}
-use Rattle.buffer_ring.specs.declared.step.Step.{Step}
+use Rattle.buffer_ring.specs.declared.step.StoreStep.{StoreStep}
 use Rattle.ca_stage.specs.Stage.{BufferData}
 use Rattle.ca_stage.specs.Tally.{Tally}
 use Rattle.ca_machine.specs.State.{State}
@@ -27,14 +27,15 @@ layout_at client [] = no_layout
 layout_at client (e ∷ entries) = if e.client.0 == client then layout_of e else layout_at client entries
 
 -- a client's store was moved by these steps, or went with its stream after them, or is the one that was handed in
-abbrev pub Made : {E : Type 0} → (E → List Step → E → Type 0) → Option E → List Step → Option E → Option E → Type 0
+abbrev pub Made : {E : Type 0} → (E → List StoreStep → E → Type 0) → Option E → List StoreStep → Option E → Option E →
+    Type 0
 Made moves given steps (Some a) (Some b) = moves a steps b
 Made {E} moves given steps (Some a) None = (b : E) × moves a steps b
 Made moves given steps None (Some b) = (steps ≡ []) × (given ≡ Some b)
 Made moves given steps None None = steps ≡ []
 
 -- by client: the data after the steps of its store
-abbrev pub after_steps : {E : Type 0} → (ℕ → List Step) → List (StreamEntry E) → (ℕ → BufferData) → ℕ → BufferData
+abbrev pub after_steps : {E : Type 0} → (ℕ → List StoreStep) → List (StreamEntry E) → (ℕ → BufferData) → ℕ → BufferData
 after_steps steps entries datas client = data_after (layout_at client entries) (steps client) (datas client)
 
 -- nothing is known of the data but what the steps found
@@ -51,14 +52,14 @@ pub record Answered {D E : Type 0} (faults : D → ℕ) (told : D → Option (Li
         (outside faults told old.devices) (outside faults told new.devices)
 
 -- An event on a board. The stores of all clients were moved by steps of the engine's end, and by nothing else; one that
--- is new is the one that was given; whole packets alone came and went. For all data that agree with what the steps found, and of which this is known, and
--- for every tally, the board went on as the plan of the machine says, with this result and payload.
+-- is new is the one that was given; whole packets alone came and went. For all data that agree with what the steps
+-- found, and of which this is known, and for every tally, the board went on as the plan of the machine says, with this
+-- result and payload.
 pub record Does {D E : Type 0} (faults : D → ℕ) (told : D → Option (List DeviceLog))
-    (moves : E → List Step → E → Type 0) (given : Option E) (known : (ℕ → BufferData) → Type 0) (old new : Board D E)
-    (plan : State → Plan) (result : Hr)
-    (payload : List ℕ) : Type 0
+    (moves : E → List StoreStep → E → Type 0) (given : Option E) (known : (ℕ → BufferData) → Type 0)
+    (old new : Board D E) (plan : State → Plan) (result : Hr) (payload : List ℕ) : Type 0
   where
-    pub steps : ℕ → List Step
+    pub steps : ℕ → List StoreStep
     pub made : (client : ℕ) →
         Made moves given (steps client) (store_at client old.entries.items) (store_at client new.entries.items)
     pub packs : (client : ℕ) → ArePacked (layout_at client old.entries.items) (steps client)

@@ -23,7 +23,7 @@ abbrev pub is_capture_flow : Flow → Bool
 is_capture_flow flow.Render = false
 is_capture_flow flow.Capture = true
 
--- a stream that records an endpoint can't count so many frames more
+-- a stream that records an endpoint can't count `frames` frames more
 abbrev pub is_worn_entry : {E : Type 0} → ℕ → ℕ → StreamEntry E → Bool
 is_worn_entry number frames e = is_recorded number e && nat_lt MAX_COUNT (e.ever + frames)
 

@@ -5,8 +5,8 @@ use Rattle.std.specs.Vec.{vec_capacity}
 use Rattle.ca_base.specs.declared.ids.Gate.TheVariants as gate
 use Rattle.ca_base.specs.declared.ids.Reason.TheVariants.{Released}
 use Rattle.buffer_ring.specs.declared.step.Deed.TheVariants as deed
-use Rattle.buffer_ring.specs.declared.step.Step.{Step}
-use Rattle.buffer_ring.specs.declared.step.Step.TheVariants as step
+use Rattle.buffer_ring.specs.declared.step.StoreStep.{StoreStep}
+use Rattle.buffer_ring.specs.declared.step.StoreStep.TheVariants as step
 use Rattle.session_manager.specs.declared.session.Session.{Session}
 use Rattle.ca_machine.specs.declared.state.Client.{Client}
 use Rattle.period_engine.specs.declared.entry.StreamEntry.{StreamEntry}
@@ -23,18 +23,18 @@ abbrev pub is_in_use : {E : Type 0} → List (StreamEntry E) → Session → Boo
 is_in_use entries s = list_any (λ e. e.session.0 == s.no.0) entries
 
 -- one step: the gate was open and was closed, since the client is released
-abbrev pub ClosesOnce : List Step → Type 0
+abbrev pub ClosesOnce : List StoreStep → Type 0
 ClosesOnce steps = (found : ℕ) × (steps ≡ step.Acts found gate.Open (deed.Closes Released) ∷ [])
 
 -- a store goes after these steps of its own: an open one is closed
-pub record Goes {E : Type 0} (moves : E → List Step → E → Type 0) (e : StreamEntry E) : Type 0 where
-  pub steps : List Step
+pub record Goes {E : Type 0} (moves : E → List StoreStep → E → Type 0) (e : StreamEntry E) : Type 0 where
+  pub steps : List StoreStep
   pub last : E
   pub made : moves e.store steps last
   pub closes : e.gate ≡ gate.Open → ClosesOnce steps
 
 -- an entry of one of these clients stays as it was; the store of another one goes
-pub record Parts {E : Type 0} (moves : E → List Step → E → Type 0) (clients : List Client) (a b : StreamEntry E)
+pub record Parts {E : Type 0} (moves : E → List StoreStep → E → Type 0) (clients : List Client) (a b : StreamEntry E)
     : Type 0
   where
     pub client : b.client ≡ a.client
@@ -42,25 +42,25 @@ pub record Parts {E : Type 0} (moves : E → List Step → E → Type 0) (client
     pub goes : is_of_live clients a ≡ false → Goes moves a
 
 -- the entries of these clients are left as they were, and the stores of the others go
-pub record Keeps {E : Type 0} (moves : E → List Step → E → Type 0) (clients : List Client)
+pub record Keeps {E : Type 0} (moves : E → List StoreStep → E → Type 0) (clients : List Client)
     (old new : List (StreamEntry E)) : Type 0
   where
     pub left : new ≡ filter (is_of_live clients) old
     pub gone : All (λ e. is_of_live clients e ≡ false → Goes moves e) old
 
 -- streams of no live client go, and then sessions of no stream; the rest is as it was
-pub record Forgets {D E : Type 0} (moves : E → List Step → E → Type 0) (old new : Board D E) : Type 0 where
+pub record Forgets {D E : Type 0} (moves : E → List StoreStep → E → Type 0) (old new : Board D E) : Type 0 where
   pub streams : Keeps moves old.book.clients.items old.entries.items new.entries.items
   pub sessions : new.book.sessions.list ≡ filter (is_in_use new.entries.items) old.book.sessions.list
   pub made : new.book.sessions.made ≡ old.book.sessions.made
   pub rest : new ≡ record old {
     entries = new.entries;
-    book = record (old.book) { sessions = new.book.sessions; levels_changed = true };
+    book = record (old.book) { sessions = new.book.sessions };
   }
   pub room : vec_capacity new.entries ≡ vec_capacity old.entries
 
 -- each store that was open and is gone was closed
-abbrev pub AreClosed : {E : Type 0} → (E → List Step → E → Type 0) → List (StreamEntry E) → List (StreamEntry E)
+abbrev pub AreClosed : {E : Type 0} → (E → List StoreStep → E → Type 0) → List (StreamEntry E) → List (StreamEntry E)
     → Type 0
 AreClosed {E} moves old new =
     All (λ e. e.gate ≡ gate.Open → store_at e.client.0 new ≡ None →

@@ -1,4 +1,4 @@
--- What look-ups of a call find, and the rows that refuse it where they don't (this project's own).
+-- What look-ups of a call find, and the rows that refuse it if they don't (this project's own).
 use Rattle.std.specs.Prelude.{◌≡◌, ℕ, ◌-◌, ◌<◌, ◌==◌, ◌++◌, List, length, Bool, false, not, Option, Some, None}
 use Rattle.std.specs.Prelude.{slice_get}
 use Rattle.std.specs.List.{find}

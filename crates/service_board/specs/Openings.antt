@@ -54,7 +54,7 @@ new_entry x plan session store = record {
 abbrev pub is_above : {E : Type 0} → ℕ → StreamEntry E → Bool
 is_above client e = nat_lt client e.client.0
 
--- what an Initialize opens that no row but want of memory refuses: the client of the call, which has no stream yet, on
+-- what an Initialize opens that no row but that of memory refuses: the client of the call, which has no stream yet, on
 -- its endpoint, which has the format; and what names the session, which its connection gives
 pub record Plans {D E : Type 0} (x : Asked) (b : Board D E) (plan : OpeningPlan) : Type 0 where
   pub named : Client

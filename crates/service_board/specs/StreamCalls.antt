@@ -1,6 +1,6 @@
 -- What calls of a client's stream make of its entry (IAudioClient).
 use Rattle.std.specs.Prelude.{◌≡◌, ℕ, List, [], Bool, true, false, not, is_some, if◌then◌else◌}
-use Rattle.buffer_ring.specs.declared.step.Step.{Step}
+use Rattle.buffer_ring.specs.declared.step.StoreStep.{StoreStep}
 use Rattle.ca_stage.specs.Stage.{BufferData, Stream}
 use Rattle.ca_stage.specs.Moves.{moved, reset}
 use Rattle.ca_machine.specs.Streams.{is_at_start}
@@ -32,10 +32,11 @@ abbrev pub emptied : Bool → Stream → Stream
 emptied whether s = if whether then moved reset s else s
 
 -- a look at an entry's store told whether there was something to throw away, and it was thrown away
-pub record Empties {E : Type 0} (moves : E → List Step → E → Type 0) (whether : Bool) (a b : StreamEntry E) : Type 0
+pub record Empties {E : Type 0} (moves : E → List StoreStep → E → Type 0) (whether : Bool) (a b : StreamEntry E)
+    : Type 0
   where
     pub same : IsSameEntry a b
-    pub steps : List Step
+    pub steps : List StoreStep
     pub made : moves a.store steps b.store
     pub packs : ArePacked (layout_of a) steps
     pub tells : (d : BufferData) → Agrees (layout_of a) steps d → is_at_start (stream_with d a) ≡ not whether

@@ -50,8 +50,8 @@ impl<D, E: EngineSide> Board<D, E> {
 }
 
 impl<D: Devices, E: EngineSide> Board<D, E> {
-    /// Adds an endpoint of this number and flow, with a format as the bytes of a WAVEFORMATEX. The memory for its periods
-    /// is taken now: E_OUTOFMEMORY if there is none.
+    /// Adds an endpoint of this number and flow, with a format as the bytes of a WAVEFORMATEX. The memory for its
+    /// periods is taken now: E_OUTOFMEMORY if there is none.
     pub fn add(
         &mut self,
         alloc: Global,

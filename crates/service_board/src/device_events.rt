@@ -3,7 +3,8 @@
 
 ghost use Rattle.std.specs.Prelude.{◌≡◌, IfErr, IfOk, None, Some, filter, not};
 ghost use Rattle.std.specs.Vec.{vec_capacity};
-ghost use Rattle.ca_machine.specs.Devices.{missing_rows, remove_plan, set_default_plan, set_format_plan, set_name_plan, set_state_plan, shutdown_plan};
+ghost use Rattle.ca_machine.specs.Devices.{missing_rows, remove_plan, set_default_plan, set_format_plan, set_name_plan};
+ghost use Rattle.ca_machine.specs.Devices.{set_state_plan, shutdown_plan};
 ghost use Rattle.ca_machine.specs.Step.{device_plan};
 ghost use Rattle.reply_payload.specs.Answers.{code_of, payload_of};
 ghost use Rattle.service_board.specs.Does.{AnyData, Does};

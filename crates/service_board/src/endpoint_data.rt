@@ -41,8 +41,8 @@ impl<D: Devices, E: EngineSide> Board<D, E> {
         Ok(())
     }
 
-    /// IMMDeviceEnumerator::GetDefaultAudioEndpoint: the number of the endpoint that was chosen for a flow and a role if
-    /// it is there and active, or else of the first active one of that flow.
+    /// IMMDeviceEnumerator::GetDefaultAudioEndpoint: the number of the endpoint that was chosen for a flow and a role
+    /// if it is there and active, or else of the first active one of that flow.
     ///
     /// Errors: E_INVALIDARG if the flow isn't 0 or 1, or the role isn't 0, 1 or 2; E_NOTFOUND if the flow has no active
     /// endpoint.

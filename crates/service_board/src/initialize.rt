@@ -68,8 +68,8 @@ impl<D: Devices, E: EngineSide> Board<D, E> {
         }
     }
 
-    /// What an Initialize opens, and the store that it needs: one of `words` words for streams of its kind. All rows are
-    /// looked at but that of memory, and a refusal is the call's.
+    /// What an Initialize opens, and the store that it needs: one of `words` words for streams of its kind. All rows
+    /// are looked at but that of memory, and a refusal is the call's.
     pub fn plan_initialize(&self, x: &Opening) -> Result<OpeningPlan, Hr>
         requires order { InOrder E.state self.now }
         ensures refused { IfErr result (λ code.

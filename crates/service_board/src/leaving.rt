@@ -80,14 +80,14 @@ fn drop_sessions<E>(sessions: &mut SessionBook, entries: &[StreamEntry<E>])
 }
 
 impl<D, E: EngineSide> Board<D, E> {
-    /// Takes away what belongs to no live client: streams, whose stores are closed, and sessions without a stream.
+    /// Takes away what belongs to no live client: streams, whose stores are closed, and sessions without a stream. The
+    /// streams that are left keep their gains, since their sessions stay.
     fn forget_gone(&mut self)
         requires rested { All (IsRested E.state) self.old.entries.items }
         ensures { Forgets E.moves self.old self.new }
     {
         drop_streams(&mut self.entries, &self.book.clients);
         drop_sessions(&mut self.book.sessions, &self.entries);
-        self.book.levels_changed = true;
     }
 }
 

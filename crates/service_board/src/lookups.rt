@@ -56,8 +56,9 @@ impl<D, E: EngineSide> Board<D, E> {
         self.runs()
     }
 
-    /// The place in the book of a call's client, which is a live client of the connection. A live client's connection is
-    /// open, and a call of another one has the same code whether its connection is open or not: so it isn't looked up.
+    /// The place in the book of a call's client, which is a live client of the connection. A live client's connection
+    /// is open, and a call of another one has the same code whether its connection is open or not: so it isn't looked
+    /// up.
     pub fn live_client(&self, conn: ConnNo, client: ClientNo) -> Result<usize, Hr>
         requires order { InOrder E.state self.now }
         ensures refused { IfErr result (λ code. Says self.now (client_call_rows conn.0 client.0) (Some code)) }

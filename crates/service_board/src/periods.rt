@@ -35,7 +35,7 @@ fn is_recorded<E: EngineSide>(all: &[StreamEntry<E>], e: EndpointNo) -> bool
     all.iter().any(|x| x.is_recorded(e))
 }
 
-/// Whether a stream records the endpoint and can't count so many frames more.
+/// Whether a stream records the endpoint and can't count `frames` frames more.
 fn is_worn_entry<E: EngineSide>(entry: &StreamEntry<E>, e: EndpointNo, frames: u32) -> bool
     ensures { result ≡ is_worn_entry e.0 frames entry.now }
 {
@@ -73,8 +73,8 @@ impl<D: Devices, E: EngineSide> Board<D, E> {
         Ok(at)
     }
 
-    /// Whether a stream that records an endpoint can't count so many frames more. One that hears what an endpoint plays
-    /// was offered no more than the endpoint played, whose count is looked at already.
+    /// Whether a stream that records an endpoint can't count `frames` frames more. One that hears what an endpoint
+    /// plays was offered no more than the endpoint played, whose count is looked at already.
     fn is_worn(&self, endpoint: &Endpoint, frames: u32) -> bool
         ensures { result ≡ (is_capture_flow endpoint.now.flow
             && list_any (is_worn_entry endpoint.now.no.0 frames) self.now.entries.items) }

@@ -1,9 +1,10 @@
 //! Calls that set a session (IAudioSessionControl2, ISimpleAudioVolume, IChannelAudioVolume).
 
-ghost use Rattle.std.specs.Prelude.{None};
+ghost use Rattle.std.specs.Prelude.{◌≡◌, None};
 ghost use Rattle.ca_machine.specs.Sessions.{set_session_plan};
 ghost use Rattle.reply_payload.specs.Answers.{code_of, payload_of};
 ghost use Rattle.service_board.specs.Does.{AnyData, Does};
+ghost use Rattle.service_board.specs.Gains.{changes_gains};
 ghost use Rattle.service_board.specs.InOrder.{InOrder};
 
 use crate::Board;
@@ -12,6 +13,16 @@ use ca_base::{ConnNo, Hr, SessionNo};
 use device_io::Devices;
 use reply_payload::Payload;
 use session_manager::Change;
+
+/// Whether a change of a session changes what the gains of its streams are made from.
+fn changes_gains(change: &Change) -> bool
+    ensures { result ≡ changes_gains change.now }
+{
+    match change {
+        Change::Level(_) | Change::Mute(_) | Change::Channel(_, _) => true,
+        Change::Display(_) | Change::Icon(_) | Change::Grouping(_) => false,
+    }
+}
 
 impl<D: Devices, E: EngineSide> Board<D, E> {
     /// Changes a session.
@@ -28,7 +39,7 @@ impl<D: Devices, E: EngineSide> Board<D, E> {
     {
         self.connected(conn)?;
         self.book.sessions.set(session, change)?;
-        self.book.levels_changed = true;
+        self.book.levels_changed |= changes_gains(change);
         Ok(Payload::Nothing)
     }
 }

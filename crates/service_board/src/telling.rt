@@ -54,8 +54,8 @@ impl<D, E: EngineSide> Board<D, E> {
         self.push_drafts();
     }
 
-    /// Tells a period whose device failed, by what was noted before it: every connection keeps what it registered for. It
-    /// takes no memory.
+    /// Tells a period whose device failed, by what was noted before it: every connection keeps what it registered for.
+    /// It takes no memory.
     pub fn tell_failed(&mut self, ev: &Event)
         requires order { InOrder E.state self.old }
         ensures told { self.new ≡ record self.old {

@@ -1,6 +1,6 @@
 pub mod Finding
 pub mod Rows
-pub mod Halves
+pub mod SortedSearch
 pub mod Joining
 pub mod Supporting
 pub mod Texts

@@ -29,7 +29,7 @@ pub struct Book {
     pub is_shut: bool,
     /// How many clients were ever made.
     pub clients_made: u64,
-    /// Whether a level was set, or a session came or went, since the gains of the entries were computed.
+    /// Whether a level was set, or a stream joined a session, since the gains of the entries were computed.
     pub levels_changed: bool,
 }
 

@@ -1,5 +1,5 @@
-//! The book: what the service keeps of connections, clients, endpoints and sessions, and what calls and events ask of it
-//! alone, without the streams.
+//! The book: what the service keeps of connections, clients, endpoints and sessions, and what calls and events ask of
+//! it alone, without the streams.
 #![tactic(auto)]
 
 mod book;

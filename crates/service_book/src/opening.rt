@@ -40,7 +40,7 @@ pub struct Opening<'a> {
     pub session: Guid,
 }
 
-/// What an Initialize opens that no row but want of memory refuses.
+/// What an Initialize opens that no row but that of memory refuses.
 #[derive(Clone, Copy)]
 pub struct OpeningPlan {
     /// The client's endpoint.

@@ -86,7 +86,8 @@ module _ {D : Type 0} (faults : D → ℕ) (told_by : D → Option (List DeviceL
       (after_telling (result.0 == hr.S_OK.0) (step_notices (noted old.state) e (noted mid.state)) mid)
   compared_step h =
       told_by_notices faults told_by e result payload old mid got (step_notices (noted old.state) e (noted mid.state))
-      (made_by_notes old.state e mid.state ((compared e h).itself old.state mid.state)) ((compared e h).tells_it got.given)
+      (made_by_notes old.state e mid.state ((compared e h).itself old.state mid.state))
+      ((compared e h).tells_it got.given)
 
   pub nothing_step : telling_of e ≡ telling.Nothing → AnswersStep faults told_by e result payload old mid
   nothing_step h = untold_step faults told_by e result payload old mid got ((untold e h).tells_none got.given)

@@ -4,7 +4,7 @@ use Rattle.ca_base.specs.declared.limits.TheConstants.{MAX_TALLY}
 use Rattle.device_io.specs.DeviceLog.{DeviceLog}
 use Rattle.ca_base.specs.declared.codes.Hr.{Hr}
 use Rattle.buffer_ring.specs.declared.step.EndState.{EndState}
-use Rattle.buffer_ring.specs.declared.step.Step.{Step}
+use Rattle.buffer_ring.specs.declared.step.StoreStep.{StoreStep}
 use Rattle.buffer_ring.specs.Kept.{Kept, RunsSteps}
 use Rattle.ca_stage.specs.Stage.{BufferData}
 use Rattle.ca_stage.specs.Tally.{Tally, no_tally}
@@ -43,8 +43,8 @@ answers_unchanged faults told kept plan result payload b counts view is goes =
     subst (λ v. AnswersPlan faults told plan result payload v v) is goes
 
 module _ {D F : Type 0} (faults : D → ℕ) (told : D → Option (List DeviceLog)) (kept : F → Kept) (state : F → EndState)
-    (moves : F → List Step → F → Type 0) (exact : (a b : F) (ss : List Step) → moves a ss b → RunsSteps (kept a) ss
-    (kept b))
+    (moves : F → List StoreStep → F → Type 0)
+    (exact : (a b : F) (ss : List StoreStep) → moves a ss b → RunsSteps (kept a) ss (kept b))
     (old new : Board D (BothEnds F)) (core : IsCore state kept old)
     (new_order : InOrder (λ ends. state ends.store) new) (plan : State → Plan) (result : Hr) (payload : List ℕ)
     (keeps : (st : State) → Keeps st (plan st)) where

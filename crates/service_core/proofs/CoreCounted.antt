@@ -6,7 +6,7 @@ use Rattle.std.proofs.lemmas.Bool.{true≢false}
 use Rattle.device_io.specs.DeviceLog.{DeviceLog}
 use Rattle.ca_base.specs.declared.codes.Hr.{Hr}
 use Rattle.buffer_ring.specs.declared.step.EndState.{EndState}
-use Rattle.buffer_ring.specs.declared.step.Step.{Step}
+use Rattle.buffer_ring.specs.declared.step.StoreStep.{StoreStep}
 use Rattle.buffer_ring.specs.Kept.{Kept, RunsSteps, state_of}
 use Rattle.ca_stage.specs.Stage.{BufferData}
 use Rattle.ca_stage.specs.Order.{RisesFrom, clients, is_among}
@@ -20,7 +20,7 @@ use Rattle.period_engine.specs.declared.entry.StreamEntry.{StreamEntry}
 use Rattle.period_engine.specs.Entries.{stream_of}
 use Rattle.service_board.specs.Does.{Does}
 use Rattle.service_board.specs.InOrder.{Belongs, InOrder}
-use Rattle.reply_payload.specs.declared.payload.Payload.TheVariants as payload_is
+use Rattle.reply_payload.specs.declared.payload.Payload.TheVariants as payloads
 use Rattle.service_board.specs.declared.board.Board.{Board}
 use Rattle.service_core.specs.BothEnds.{MovesStore}
 use Rattle.service_core.specs.Core.{Goes, GoesTo, LooksAround, core_datas, core_state, words_in}
@@ -30,12 +30,13 @@ use Rattle.service_core.specs.declared.both_ends.BothEnds.{BothEnds}
 use Rattle.service_core.specs.declared.pending.Streams.TheVariants as streams
 use Rattle.service_core.proofs.CoreSteps.{each_of}
 use Rattle.service_core.proofs.CoreAnswers.{board_core, board_goes}
-use Rattle.service_core.proofs.CoreCounts.{goes_around, goes_dropped, goes_nothing, goes_reset, goes_taking, pending_is, taken}
+use Rattle.service_core.proofs.CoreCounts.{goes_around, goes_dropped, goes_nothing, goes_reset, goes_taking, pending_is}
+use Rattle.service_core.proofs.CoreCounts.{taken}
 use Rattle.service_core.proofs.PlansFall.{Keeps}
 use Rattle.service_core.proofs.PendingWords.{around_state}
 use Rattle.service_core.proofs.TallyFalls.{open_padding}
 use Rattle.service_core.proofs.TallyOutcomes.{WereDropped, WereReset, WereTaken}
-use Rattle.service_core.proofs.Waiting.{still_core}
+use Rattle.service_core.proofs.WaitingFrames.{still_core}
 
 -- the clients of the streams are those of the entries, and are live
 module _ {D F : Type 0} (kept : F → Kept) (state : F → EndState) (b : Board D (BothEnds F)) (tally : Tally)
@@ -61,8 +62,8 @@ module _ {D F : Type 0} (kept : F → Kept) (state : F → EndState) (b : Board 
 
 -- the board as it was, when the event came, after it, and after the second look
 module _ {D F : Type 0} (faults : D → ℕ) (told : D → Option (List DeviceLog)) (kept : F → Kept) (state : F → EndState)
-    (whole : (x : F) → state_of (kept x) ≡ state x) (moves : F → List Step → F → Type 0)
-    (exact : (a b : F) (ss : List Step) → moves a ss b → RunsSteps (kept a) ss (kept b))
+    (whole : (x : F) → state_of (kept x) ≡ state x) (moves : F → List StoreStep → F → Type 0)
+    (exact : (a b : F) (ss : List StoreStep) → moves a ss b → RunsSteps (kept a) ss (kept b))
     (first old new last : Board D (BothEnds F)) (enters : LooksAround kept first old)
     (leaves : LooksAround kept new last) (core : IsCore state kept first)
     (new_order : InOrder (λ ends. state ends.store) new) (before more : ℕ)
@@ -141,11 +142,11 @@ module _ {D F : Type 0} (faults : D → ℕ) (told : D → Option (List DeviceLo
       to_le_bytes w32 frames ++ (if failed then 1 else 0) ∷ [] ≡ (ends tally given).payload →
       WereTaken failed (comes tally) (ends tally given).after) →
       to_le_bytes w32 frames ++ (if failed then 1 else 0) ∷ [] ≡ payload →
-      GoesTo faults told kept plan answer payload tally (after_taking (Ok (payload_is.Period frames failed)) more tally)
+      GoesTo faults told kept plan answer payload tally (after_taking (Ok (payloads.Period frames failed)) more tally)
       first last
   counted_taking tally frames failed were is =
-      around tally (after_taking (Ok (payload_is.Period frames failed)) more tally)
+      around tally (after_taking (Ok (payloads.Period frames failed)) more tally)
       (subst (λ n. GoesTo faults told kept plan answer payload tally
-      (after_taking (Ok (payload_is.Period frames failed)) n tally) old new) (taken_is tally)
+      (after_taking (Ok (payloads.Period frames failed)) n tally) old new) (taken_is tally)
       (goes_taking faults told kept plan answer payload tally old new (goes tally) frames failed
       (were (rises kept state old tally old_core.order)) is))

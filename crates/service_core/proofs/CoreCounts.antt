@@ -60,17 +60,17 @@ module _ {D F : Type 0} (faults : D → ℕ) (told : D → Option (List DeviceLo
   pub goes_still : ((s : State) → LeavesTally s (plan s)) →
       GoesTo faults told kept plan result payload before before old new
   goes_still leaves =
-      goes_by before (ap (λ s. s.tally) goes.answers.after-is ∙ (leaves st).leaves goes.answers.given)
+      goes_by before (ap (λ s. s.tally) goes.answers.after_is ∙ (leaves st).leaves goes.answers.given)
 
   pub goes_reset : ((given : List Answer) → WereReset st (outcome_of st (plan st) given).after) →
       GoesTo faults told kept plan result payload before (more_reset taken before) old new
   goes_reset were =
-      goes_by (more_reset taken before) (subst (WereReset st) (sym goes.answers.after-is) (were goes.answers.given))
+      goes_by (more_reset taken before) (subst (WereReset st) (sym goes.answers.after_is) (were goes.answers.given))
 
   pub goes_dropped : ((given : List Answer) → WereDropped st (outcome_of st (plan st) given).after) →
       GoesTo faults told kept plan result payload before (more_dropped taken before) old new
   goes_dropped were =
-      goes_by (more_dropped taken before) (subst (WereDropped st) (sym goes.answers.after-is) (were goes.answers.given))
+      goes_by (more_dropped taken before) (subst (WereDropped st) (sym goes.answers.after_is) (were goes.answers.given))
 
 -- looks before and after an event are no part of it
 pub goes_around : {D F : Type 0} (faults : D → ℕ) (told : D → Option (List DeviceLog)) (kept : F → Kept)
@@ -102,7 +102,7 @@ module _ {D F : Type 0} (faults : D → ℕ) (told : D → Option (List DeviceLo
       [] ≡ payload → GoesTo faults told kept plan result payload before before old new
   goes_nothing stays none =
       goes_by faults told kept plan result payload before old new goes before
-      (ap (λ s. s.tally) goes.answers.after-is ∙ stays goes.answers.given (none ∙ goes.answers.payload-is))
+      (ap (λ s. s.tally) goes.answers.after_is ∙ stays goes.answers.given (none ∙ goes.answers.payload_is))
 
   -- a period's answer says what was taken
   pub goes_taking : (frames : ℕ) (failed : Bool) →
@@ -118,8 +118,8 @@ module _ {D F : Type 0} (faults : D → ℕ) (told : D → Option (List DeviceLo
       before) old new
   goes_taking frames failed were is =
       goes_by faults told kept plan result payload before old new goes _
-      (by failed (subst (WereTaken failed (core_state kept before old)) (sym goes.answers.after-is)
-      (were goes.answers.given (is ∙ goes.answers.payload-is))))
+      (by failed (subst (WereTaken failed (core_state kept before old)) (sym goes.answers.after_is)
+      (were goes.answers.given (is ∙ goes.answers.payload_is))))
     where
       by : (failed : Bool) →
           WereTaken failed (core_state kept before old) (core_state kept goes.tally new) →

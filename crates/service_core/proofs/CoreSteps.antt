@@ -10,7 +10,7 @@ use Rattle.device_io.specs.DeviceLog.{DeviceLog}
 use Rattle.wave_format.specs.Frame.{frame_of}
 use Rattle.ca_base.specs.declared.codes.Hr.{Hr}
 use Rattle.ca_base.specs.declared.limits.TheConstants.{MAX_STORE_WORDS}
-use Rattle.buffer_ring.specs.declared.step.Step.{Step}
+use Rattle.buffer_ring.specs.declared.step.StoreStep.{StoreStep}
 use Rattle.buffer_ring.specs.Kept.{Kept, RunsSteps}
 use Rattle.client_state.specs.declared.side.ClientSide.{ClientSide}
 use Rattle.client_state.specs.Frames.{frames_in}
@@ -32,11 +32,13 @@ use Rattle.service_board.specs.Does.{Does, Made, Answered, after_steps, layout_a
 use Rattle.service_board.specs.Lookups.{is_entry_of}
 use Rattle.service_board.specs.declared.board.Board.{Board}
 use Rattle.service_core.specs.BothEnds.{MovesStore}
-use Rattle.service_core.specs.Core.{ArePackets, Goes, HasSide, HaveSides, IsFresh, core_data, core_datas, core_state, data_in}
+use Rattle.service_core.specs.Core.{ArePackets, Goes, HasSide, HaveSides, IsFresh, core_data, core_datas, core_state}
+use Rattle.service_core.specs.Core.{data_in}
 use Rattle.service_core.specs.declared.both_ends.BothEnds.{BothEnds}
 use Rattle.service_core.proofs.StoreData.{data_of, data_with, layout_by, runs_agree, runs_data, runs_packed}
 use Rattle.period_engine.proofs.PacketLists.{packets_in-nil}
-use Rattle.service_core.proofs.EntryData.{entry_at, each_entry, entry_client, store_found, layout_found, stream_found, data_found}
+use Rattle.service_core.proofs.EntryData.{entry_at, each_entry, entry_client, store_found, layout_found, stream_found}
+use Rattle.service_core.proofs.EntryData.{data_found}
 use Rattle.service_core.proofs.StreamsFall.{AllFell, Fell}
 use Rattle.service_core.proofs.PlansFall.{Keeps}
 
@@ -54,15 +56,15 @@ side_with s count leased = record {
   released = count;
 }
 
-module _ {F : Type 0} (kept : F → Kept) (moves : F → List Step → F → Type 0)
-    (exact : (a b : F) (ss : List Step) → moves a ss b → RunsSteps (kept a) ss (kept b)) where
+module _ {F : Type 0} (kept : F → Kept) (moves : F → List StoreStep → F → Type 0)
+    (exact : (a b : F) (ss : List StoreStep) → moves a ss b → RunsSteps (kept a) ss (kept b)) where
   -- a store that was there went by its steps, whether it stays or not
-  went : (given : Option (BothEnds F)) (steps : List Step) (a : BothEnds F) (o : Option (BothEnds F)) →
+  went : (given : Option (BothEnds F)) (steps : List StoreStep) (a : BothEnds F) (o : Option (BothEnds F)) →
       Made (MovesStore moves) given steps (Some a) o → (b : BothEnds F) × MovesStore moves a steps b
   went given steps a (Some b) made = (b, made)
   went given steps a None made = made
 
-  module _ (given : Option (BothEnds F)) (steps : ℕ → List Step) (olds news : List (StreamEntry (BothEnds F)))
+  module _ (given : Option (BothEnds F)) (steps : ℕ → List StoreStep) (olds news : List (StreamEntry (BothEnds F)))
       (made : (client : ℕ) →
       Made (MovesStore moves) given (steps client) (store_at client olds) (store_at client news))
       (packs : (client : ℕ) → ArePacked (layout_at client olds) (steps client))
@@ -272,8 +274,8 @@ all_by P [] h = All-nil P
 all_by P (x ∷ xs) h = All-cons P x xs h.0 (all_by P xs h.1)
 
 module _ {D F : Type 0} (faults : D → ℕ) (told : D → Option (List DeviceLog)) (kept : F → Kept)
-    (moves : F → List Step → F → Type 0) (exact : (a b : F) (ss : List Step) → moves a ss b → RunsSteps (kept a) ss
-    (kept b))
+    (moves : F → List StoreStep → F → Type 0)
+    (exact : (a b : F) (ss : List StoreStep) → moves a ss b → RunsSteps (kept a) ss (kept b))
     (given : Option (BothEnds F)) (known : (ℕ → BufferData) → Type 0) (old new : Board D (BothEnds F))
     (plan : State → Plan) (result : Hr) (payload : List ℕ) (before : Tally)
     (does : Does faults told (MovesStore moves) given known old new plan result payload)
@@ -294,7 +296,7 @@ module _ {D F : Type 0} (faults : D → ℕ) (told : D → Option (List DeviceLo
 
   all_fell : AllFell (core_state kept before old).stage
       (state_of (after_steps does.steps old.entries.items (core_datas kept old.entries.items)) done.tally new).stage
-  all_fell = subst (λ st. AllFell (core_state kept before old).stage st.stage) (sym done.answers.after-is)
+  all_fell = subst (λ st. AllFell (core_state kept before old).stage st.stage) (sym done.answers.after_is)
       ((keeps (core_state kept before old)).leaves done.answers.given)
 
   -- the machine's step on the state of both ends

@@ -26,21 +26,24 @@ use Rattle.ca_machine.specs.Data.{data_plan, first_packet, next_packet_size, pac
 use Rattle.period_engine.specs.Packed.{packet_of}
 use Rattle.period_engine.specs.declared.entry.StreamEntry.{StreamEntry}
 use Rattle.period_engine.specs.Entries.{IsRested}
-use Rattle.service_board.specs.InOrder.{InOrder}
 use Rattle.service_board.specs.declared.board.Board.{Board}
-use Rattle.service_core.specs.Core.{Goes, HasSide, HaveSides, IsLooked, IsTouched, Reads, Releases, seen_in}
+use Rattle.service_core.specs.Core.{Goes, HasSide, IsLooked, IsTouched, Reads, Releases, seen_in}
 use Rattle.service_core.specs.DataCalls.{FindsEntry}
+use Rattle.service_core.specs.Service.{IsCore}
 use Rattle.service_core.specs.declared.both_ends.BothEnds.{BothEnds}
 use Rattle.service_board.proofs.OneEntry.{IsSole, sole_there}
 use Rattle.service_board.proofs.StreamMoves.{ChangesOne, order_kept}
-use Rattle.service_core.proofs.ReleaseRows.{PassesPacket, PassesRead, PassesRelease, get_passes, next_passes, packet_passes, read_passes, release_passes, side_way}
+use Rattle.service_core.proofs.ReleaseRows.{PassesPacket, PassesRead, PassesRelease, get_passes, next_passes}
+use Rattle.service_core.proofs.ReleaseRows.{packet_passes, read_passes, release_passes, side_way}
 use Rattle.service_core.proofs.DataSteps.{core_stream, data_moved, data_row_refused, data_told}
 use Rattle.service_core.proofs.PacketData.{first_is, next_is, one_packet, waiting_is}
-use Rattle.service_core.proofs.DataEntries.{leased_rested, leased_side, leased_stream, looked_rested, looked_side, looked_stream, read_rested, read_side, read_stream, released_rested, released_side, released_stream, rows_seen, same_but_store}
+use Rattle.service_core.proofs.DataEntries.{leased_rested, leased_side, leased_stream, looked_rested, looked_side}
+use Rattle.service_core.proofs.DataEntries.{looked_stream, read_rested, read_side, read_stream, released_rested}
+use Rattle.service_core.proofs.DataEntries.{released_side, released_stream, rows_seen, same_but_store}
 
 module _ {D F : Type 0} (faults : D → ℕ) (told : D → Option (List DeviceLog)) (kept : F → Kept) (state : F → EndState)
     (whole : (x : F) → state_of (kept x) ≡ state x) (conn client : ℕ) (old new : Board D (BothEnds F)) (at : ℕ)
-    (a b : StreamEntry (BothEnds F)) (order : InOrder (λ ends. state ends.store) old) (sides : HaveSides kept old)
+    (a b : StreamEntry (BothEnds F)) (core : IsCore state kept old)
     (there : FindsEntry conn client old at) (found : a ≡ get_or old.entries.items at a) (one : ChangesOne at b old new)
     (same : b ≡ record a { store = b.store }) where
   is_a : there.entry ≡ a
@@ -50,7 +53,7 @@ module _ {D F : Type 0} (faults : D → ℕ) (told : D → Option (List DeviceLo
   is_here = there.here ∙ ap Some is_a
 
   is_sole : IsSole a old.entries.items at
-  is_sole = sole_there 0 old.entries.items order.order at a is_here
+  is_sole = sole_there 0 old.entries.items core.order.order at a is_here
 
   number : a.client.0 ≡ client
   number = ap (λ e. e.client.0) (sym is_a) ∙ there.client_is
@@ -59,30 +62,28 @@ module _ {D F : Type 0} (faults : D → ℕ) (told : D → Option (List DeviceLo
   same_client = ap (λ e. e.client.0) same
 
   pub has_side : HasSide kept a
-  has_side = subst (HasSide kept) (sym found) (sides at a there.within)
+  has_side = subst (HasSide kept) (sym found) (core.sides at a there.within)
 
   pub rested : IsRested (λ ends. state ends.store) a
-  rested = subst (IsRested (λ ends. state ends.store)) (sym found) (order.rested at a there.within)
+  rested = subst (IsRested (λ ends. state ends.store)) (sym found) (core.order.rested at a there.within)
 
-  still_in_order : IsRested (λ ends. state ends.store) b → InOrder (λ ends. state ends.store) new
-  still_in_order rests =
-      let before : b.position ≡ a.position = ap (λ e. e.position) same in
-      let counted : b.ever ≡ a.ever = ap (λ e. e.ever) same in
-      order_kept (λ ends. state ends.store) old new at a b is_here (λ opens. sym (ap (λ e. e.gate) same) ∙ opens) one
-      (same_but_store a b same) rests (omega (arith, before)) (omega (arith, counted)) order
-
-  still_sides : HasSide kept b → HaveSides kept new
-  still_sides has =
-      subst (All (HasSide kept)) (sym one.entries) (All-set (HasSide kept) old.entries.items at b has sides)
+  core_kept : IsRested (λ ends. state ends.store) b → HasSide kept b → IsCore state kept new
+  core_kept rests has = record {
+    order =
+        let before : b.position ≡ a.position = ap (λ e. e.position) same in
+        let counted : b.ever ≡ a.ever = ap (λ e. e.ever) same in
+        order_kept (λ ends. state ends.store) old new at a b is_here (λ opens. sym (ap (λ e. e.gate) same) ∙ opens) one
+        (same_but_store a b same) rests (omega (arith, before)) (omega (arith, counted)) core.order;
+    sides =
+        subst (All (HasSide kept)) (sym one.entries) (All-set (HasSide kept) old.entries.items at b has core.sides);
+  }
 
   -- ---- only a look
 
   module _ (looked : IsLooked kept a b) where
-    pub looked_order : InOrder (λ ends. state ends.store) new
-    looked_order = still_in_order (looked_rested kept state whole a b looked rested)
-
-    pub looked_sides : HaveSides kept new
-    looked_sides = still_sides (looked_side kept state whole a b looked has_side)
+    pub looked_core : IsCore state kept new
+    looked_core =
+        core_kept (looked_rested kept state whole a b looked rested) (looked_side kept state whole a b looked has_side)
 
     pub refused_goes : (call : DataCall) (outcome : State → Stream → Outcome) (code : Hr) →
         Some code ≡ first (side_rows a.store.side call (seen_in (kept a.store.store))) → (before : Tally) →
@@ -149,13 +150,10 @@ module _ {D F : Type 0} (faults : D → ℕ) (told : D → Option (List DeviceLo
         (n ≤ a.store.side.store_frames - length (kept a.store.store).words)
     passes = get_passes a.store.side n (seen_in (kept a.store.store)) (sym row)
 
-    pub leased_order : InOrder (λ ends. state ends.store) new
-    leased_order = still_in_order (leased_rested kept state whole a b n touched rested)
-
-    pub leased_sides : HaveSides kept new
-    leased_sides =
+    pub leased_core : IsCore state kept new
+    leased_core =
         let size : a.store.side.store_frames ≡ a.room = ap (λ side. side.store_frames) has_side.side in
-        still_sides (leased_side kept state whole a b n touched
+        core_kept (leased_rested kept state whole a b n touched rested) (leased_side kept state whole a b n touched
         (λ renders. subst (λ k. n ≤ k - length (kept a.store.store).words) size passes.1) has_side)
 
     pub leased_goes : (before : Tally) → Goes faults told kept
@@ -163,8 +161,8 @@ module _ {D F : Type 0} (faults : D → ℕ) (told : D → Option (List DeviceLo
         hr.S_OK
         [] before old new
     leased_goes before =
-        moved_goes (data_call.Get n) (λ st s. granted [] (of_client client (leased n) ∷ []) st) [] (leased n) row passes.0
-        (leased_stream kept state whole a b n touched) (λ st. refl) before
+        moved_goes (data_call.Get n) (λ st s. granted [] (of_client client (leased n) ∷ []) st) [] (leased n) row
+        passes.0 (leased_stream kept state whole a b n touched) (λ st. refl) before
 
   module _ (frames : ℕ → List Frame) (count flags size : ℕ) (few : count ≤ MAX_COUNT)
       (gone : Releases kept (frames a.channels) count a b)
@@ -176,12 +174,10 @@ module _ {D F : Type 0} (faults : D → ℕ) (told : D → Option (List DeviceLo
       renders : is_render a.kind ≡ true
       renders = sym (side_way kept a has_side rested.fits.few_channels) ∙ released_passes.plays
 
-      pub released_order : InOrder (λ ends. state ends.store) new
-      released_order =
-          still_in_order (released_rested kept state whole a b (frames a.channels) count renders gone rested)
-
-      pub released_sides : HaveSides kept new
-      released_sides = still_sides (released_side kept state whole a b (frames a.channels) count renders gone has_side)
+      pub released_core : IsCore state kept new
+      released_core =
+          core_kept (released_rested kept state whole a b (frames a.channels) count renders gone rested)
+          (released_side kept state whole a b (frames a.channels) count renders gone has_side)
 
       pub released_goes : (before : Tally) → Goes faults told kept
           (λ st. data_plan st conn client (data_call.Release count flags size)
@@ -210,12 +206,10 @@ module _ {D F : Type 0} (faults : D → ℕ) (told : D → Option (List DeviceLo
         one_packet (length (kept a.store.store).words) a.period
         (subst (λ k. 1 ≤ length (kept a.store.store).words / (k + 1)) same packet_ready.some)
 
-    pub packet_order : InOrder (λ ends. state ends.store) new
-    packet_order = still_in_order (leased_rested kept state whole a b a.store.side.period touched rested)
-
-    pub packet_sides : HaveSides kept new
-    packet_sides =
-        still_sides (leased_side kept state whole a b a.store.side.period touched
+    pub packet_core : IsCore state kept new
+    packet_core =
+        core_kept (leased_rested kept state whole a b a.store.side.period touched rested)
+        (leased_side kept state whole a b a.store.side.period touched
         (λ renders. absurd (true≢false (sym renders ∙ records))) has_side)
 
     pub packet_goes : (before : Tally) → Goes faults told kept
@@ -244,11 +238,10 @@ module _ {D F : Type 0} (faults : D → ℕ) (told : D → Option (List DeviceLo
       reads : is_render a.kind ≡ false
       reads = sym (side_way kept a has_side rested.fits.few_channels) ∙ read_ready.records
 
-      pub read_order : InOrder (λ ends. state ends.store) new
-      read_order = still_in_order (read_rested kept state whole a b (packets_read frames) reads gone rested)
-
-      pub read_sides : HaveSides kept new
-      read_sides = still_sides (read_side kept state whole a b (packets_read frames) reads gone has_side)
+      pub read_core : IsCore state kept new
+      read_core =
+          core_kept (read_rested kept state whole a b (packets_read frames) reads gone rested)
+          (read_side kept state whole a b (packets_read frames) reads gone has_side)
 
       pub read_goes : (before : Tally) → Goes faults told kept
           (λ st. data_plan st conn client (data_call.CaptureRelease frames)

@@ -22,7 +22,8 @@ use Rattle.period_engine.specs.Agreement.{layout_of, words_of}
 use Rattle.period_engine.specs.Packed.{packets_in}
 use Rattle.period_engine.specs.SubSteps.{IsSameEntry}
 use Rattle.reply_payload.specs.declared.payload.TheConstants.{REPLY_ROOM}
-use Rattle.service_core.specs.Core.{ArePackets, HasSide, IsLooked, IsTouched, Reads, Releases, core_data, data_in, seen_in}
+use Rattle.service_core.specs.Core.{ArePackets, HasSide, IsLooked, IsTouched, Reads, Releases, core_data, data_in}
+use Rattle.service_core.specs.Core.{seen_in}
 use Rattle.service_core.specs.declared.both_ends.BothEnds.{BothEnds}
 use Rattle.service_core.proofs.DataSteps.{core_stream}
 use Rattle.service_core.proofs.StoreData.{data_with, words_are}

@@ -29,8 +29,8 @@ use Rattle.service_core.specs.Core.{Goes, core_data, core_datas, core_state}
 use Rattle.service_core.specs.DataCalls.{FindsEntry, RefusesData, all_data_rows}
 use Rattle.service_core.specs.declared.both_ends.BothEnds.{BothEnds}
 use Rattle.service_book.proofs.Finding.{first_later}
-use Rattle.service_board.proofs.Doing.{answers_refused}
-use Rattle.service_board.proofs.Granting.{answers_granted}
+use Rattle.service_board.proofs.PlainEvents.{answers_refused}
+use Rattle.service_board.proofs.GrantedEvents.{answers_granted}
 use Rattle.service_board.proofs.OneEntry.{IsSole, here, later, streams_set}
 use Rattle.service_board.proofs.StreamMoves.{ChangesOne}
 
@@ -41,9 +41,9 @@ gets st plan out o row asks grants output = answers_granted st plan o.result o.p
   passes = row;
   asks = asks;
   output = ap (λ x. x.output) grants ∙ output;
-  result-is = ap (λ x. x.result) (sym grants);
-  payload-is = ap (λ x. x.payload) (sym grants);
-  after-is = ap (λ x. x.after) (sym grants);
+  result_is = ap (λ x. x.result) (sym grants);
+  payload_is = ap (λ x. x.payload) (sym grants);
+  after_is = ap (λ x. x.after) (sym grants);
 })
 
 -- the stream that an entry with both ends stands for
@@ -187,7 +187,8 @@ module _ {D F : Type 0} (faults : D → ℕ) (told : D → Option (List DeviceLo
         refl)
 
     -- the call moves the stream, which is open
-    pub data_moved : (payload : List ℕ) (m : StreamMove) → first (data_rows call (Some (core_stream kept a))) ≡ None → a.gate ≡ gate.Open →
+    pub data_moved : (payload : List ℕ) (m : StreamMove) → first (data_rows call (Some (core_stream kept a))) ≡ None →
+        a.gate ≡ gate.Open →
         core_stream kept b ≡ moved m (core_stream kept a) →
         ((st : State) → outcome st (core_stream kept a) ≡ granted payload (of_client a.client.0 m ∷ []) st) →
         Goes faults told kept the_plan hr.S_OK payload before old new

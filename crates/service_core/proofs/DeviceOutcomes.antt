@@ -17,7 +17,8 @@ use Rattle.ca_stage.proofs.MapMoves.{moves_of_are}
 use Rattle.ca_machine.specs.State.{State, endpoint_at}
 use Rattle.ca_machine.specs.Plan.{Answer, Outcome, if_found, moved, outcome_of}
 use Rattle.ca_machine.specs.Plan.Answer.{out_of_memory}
-use Rattle.ca_machine.specs.Devices.{disconnects, disconnects_if, is_within, leaves_active, shutdown_plan, with_endpoint_format, with_endpoint_state, with_named}
+use Rattle.ca_machine.specs.Devices.{disconnects, disconnects_if, is_within, leaves_active, shutdown_plan}
+use Rattle.ca_machine.specs.Devices.{with_endpoint_format, with_endpoint_state, with_named}
 use Rattle.ca_machine.specs.Streams.{matches}
 use Rattle.ca_machine.specs.Step.{device_plan}
 use Rattle.service_core.specs.Counting.{HasCounts}
@@ -26,7 +27,8 @@ use Rattle.service_core.proofs.TallyOutcomes.{WereDropped, dropped_unless, falle
 
 module _ (st : State) (rises : RisesFrom 0 (clients st.stage)) (fits : HasCounts st.tally) where
   -- streams that lose their device
-  disconnects_drop : (reason : Reason) (scope : Option ℕ) → WereDropped st (moved (disconnects reason scope st.stage) st)
+  disconnects_drop : (reason : Reason) (scope : Option ℕ) →
+      WereDropped st (moved (disconnects reason scope st.stage) st)
   disconnects_drop reason scope =
       let lost : List Stream = filter (λ s. is_within scope s && is_open s) st.stage.streams in
       closes_count reason (clients_of lost) st.stage st.tally rises fits.dropped (disconnects reason scope st.stage)
@@ -50,7 +52,8 @@ module _ (st : State) (rises : RisesFrom 0 (clients st.stage)) (fits : HasCounts
   named_drops None f h = none_dropped st rises fits
   named_drops (Some e) f h = h e
 
-  memory_drops : (o : Outcome) (given : List Answer) → WereDropped st o.after → WereDropped st (if_found st o given).after
+  memory_drops : (o : Outcome) (given : List Answer) → WereDropped st o.after →
+      WereDropped st (if_found st o given).after
   memory_drops o (out_of_memory ∷ given) h = none_dropped st rises fits
   memory_drops o _ h = h
 

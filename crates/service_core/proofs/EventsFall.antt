@@ -22,19 +22,24 @@ use Rattle.ca_stage.specs.Periods.{captures, open_streams_on, sub_steps}
 use Rattle.session_manager.specs.Sessions.{joined, number_joined, session_at}
 use Rattle.session_manager.specs.declared.session.SessionKey.{SessionKey}
 use Rattle.ca_machine.specs.declared.state.Client.{Client}
-use Rattle.ca_machine.specs.State.{State, live_clients, client_of, endpoint_at, is_client_of, session_list, with_sessions}
+use Rattle.ca_machine.specs.State.{State, live_clients, client_of, endpoint_at, is_client_of, session_list}
+use Rattle.ca_machine.specs.State.{with_sessions}
 use Rattle.ca_machine.specs.Plan.{Answer, answered, bytes_given, moved, is_whole}
 use Rattle.ca_machine.specs.SharedRows.{endpoint_of, with_endpoint}
 use Rattle.ca_machine.specs.Clients.{closes, leaving, hangup_plan, is_client_on, without_connection}
 use Rattle.ca_machine.specs.Endpoints.{default_at, endpoint_named, endpoint_told, number_told}
-use Rattle.ca_machine.specs.Streams.{Opening, endpoint_channels, flow_of, initialized, is_kept, joined_by, new_stream, position_of, session_key, stream_level, supported, is_faulty, matches, format_payload, with_stream_level}
+use Rattle.ca_machine.specs.Streams.{Opening, endpoint_channels, flow_of, initialized, is_kept, joined_by, new_stream}
+use Rattle.ca_machine.specs.Streams.{position_of, session_key, stream_level, supported, is_faulty, matches}
+use Rattle.ca_machine.specs.Streams.{format_payload, with_stream_level}
 use Rattle.ca_machine.specs.Data.{next_packet_size}
 use Rattle.ca_machine.specs.Sessions.{session_payload, state_of_session, with_session}
-use Rattle.ca_machine.specs.Periods.{after_period, mixing_of, period_by, period_frames, period_of, period_rows, recording, recording_moves, sounding}
+use Rattle.ca_machine.specs.Periods.{after_period, mixing_of, period_by, period_frames, period_of, period_rows}
+use Rattle.ca_machine.specs.Periods.{recording, recording_moves, sounding}
 use Rattle.ca_machine.specs.Step.{call_plan, plan}
 use Rattle.ca_machine.proofs.PeriodMoves.{OfSubSteps, captures_all, sub_steps_all}
 use Rattle.service_core.proofs.DevicesFall.{keeps_device, keeps_shutdown}
-use Rattle.service_core.proofs.PlansFall.{Keeps, Leaves, keeps_memory, keeps_moves, keeps_plain, keeps_still, keeps_tells, leaves_unless, of_endpoint, of_number, of_session, of_told}
+use Rattle.service_core.proofs.PlansFall.{Keeps, Leaves, keeps_memory, keeps_moves, keeps_plain, keeps_still}
+use Rattle.service_core.proofs.PlansFall.{keeps_tells, leaves_unless, of_endpoint, of_number, of_session, of_told}
 use Rattle.service_core.proofs.StreamsFall.{IsControl, AllFell, all_still, all_moved, all_present}
 
 -- clients that go

@@ -6,12 +6,13 @@ pub mod DevicesFall
 pub mod EventsFall
 pub mod CoreSteps
 pub mod PutFrames
-pub mod Silent
+pub mod SilentFrames
 pub mod ReleaseRows
-pub mod Asked
+pub mod RunEntries
 pub mod DataPlaces
 pub mod DataSteps
 pub mod DataEntries
+pub mod EntrySets
 pub mod DataBoards
 pub mod TallyFalls
 pub mod TallyOutcomes
@@ -19,7 +20,7 @@ pub mod DeviceOutcomes
 pub mod TallyStays
 pub mod PendingWords
 pub mod CoreCounts
-pub mod Waiting
+pub mod WaitingFrames
 pub mod CoreAnswers
 pub mod CoreCounted
 pub mod Leases

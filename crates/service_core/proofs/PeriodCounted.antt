@@ -5,7 +5,7 @@ use Rattle.ca_base.specs.declared.codes.Hr.{Hr}
 use Rattle.ca_base.specs.declared.ids.EndpointNo.{EndpointNo}
 use Rattle.ca_model.specs.declared.event.Event.TheVariants as event
 use Rattle.buffer_ring.specs.declared.step.EndState.{EndState}
-use Rattle.buffer_ring.specs.declared.step.Step.{Step}
+use Rattle.buffer_ring.specs.declared.step.StoreStep.{StoreStep}
 use Rattle.buffer_ring.specs.Kept.{Kept, RunsSteps, state_of}
 use Rattle.ca_stage.specs.Tally.{Tally}
 use Rattle.ca_machine.specs.Periods.{period_plan}
@@ -26,8 +26,8 @@ use Rattle.service_core.proofs.EventsFall.{keeps_event}
 use Rattle.service_core.proofs.TallyOutcomes.{period_nothing, period_outcome}
 
 module _ {D F : Type 0} (faults : D → ℕ) (told : D → Option (List DeviceLog)) (kept : F → Kept) (state : F → EndState)
-    (whole : (x : F) → state_of (kept x) ≡ state x) (moves : F → List Step → F → Type 0)
-    (exact : (a b : F) (ss : List Step) → moves a ss b → RunsSteps (kept a) ss (kept b))
+    (whole : (x : F) → state_of (kept x) ≡ state x) (moves : F → List StoreStep → F → Type 0)
+    (exact : (a b : F) (ss : List StoreStep) → moves a ss b → RunsSteps (kept a) ss (kept b))
     (first old new last : Board D (BothEnds F)) (enters : LooksAround kept first old)
     (leaves : LooksAround kept new last) (core : IsCore state kept first)
     (new_order : InOrder (λ ends. state ends.store) new) (before more : ℕ)

@@ -16,10 +16,12 @@ use Rattle.ca_model.specs.declared.event.Event.TheVariants as event
 use Rattle.device_registry.specs.declared.endpoint.Endpoint.{Endpoint}
 use Rattle.step_notices.specs.Notes.{Notes}
 use Rattle.ca_machine.specs.State.{State, endpoint_at}
-use Rattle.ca_machine.specs.Plan.{Answer, AreAnswers, Asked, Outcome, asked_of, bytes_given, is_whole, outcome_of, refused}
+use Rattle.ca_machine.specs.Plan.{Answer, AreAnswers, Asked, Outcome, asked_of, bytes_given, is_whole, outcome_of}
+use Rattle.ca_machine.specs.Plan.{refused}
 use Rattle.ca_machine.specs.Plan.{unless_refused, unless_row}
 use Rattle.ca_machine.specs.Notices.{noted}
-use Rattle.ca_machine.specs.Periods.{frames_recorded, mixing_of, period_by, period_frames, period_of, period_payload, period_plan, period_rows, recording, sounding}
+use Rattle.ca_machine.specs.Periods.{frames_recorded, mixing_of, period_by, period_frames, period_of, period_payload}
+use Rattle.ca_machine.specs.Periods.{period_plan, period_rows, recording, sounding}
 use Rattle.ca_machine.specs.View.{MachineView}
 use Rattle.reply_payload.specs.Answers.{IsPeriod, code_of, payload_of}
 use Rattle.reply_payload.specs.declared.payload.Payload.{Payload}
@@ -133,16 +135,16 @@ module _ {D : Type 0} (faults : D → ℕ) (told_by : D → Option (List DeviceL
       told_by_notices faults told_by (event.Period e) hr.S_OK (answer_bytes frames true) old mid got
       (step_notices (noted old.state) (event.Period e) (noted mid.state))
       (made_by_notes old.state (event.Period e) mid.state refl)
-      (sym (bytes_failed old.state got.given (endpoint_at e.0 old.state) frames true got.payload-is))
+      (sym (bytes_failed old.state got.given (endpoint_at e.0 old.state) frames true got.payload_is))
   played_step frames false got =
       untold_step faults told_by (event.Period e) hr.S_OK (answer_bytes frames false) old mid got
-      (sym (bytes_failed old.state got.given (endpoint_at e.0 old.state) frames false got.payload-is))
+      (sym (bytes_failed old.state got.given (endpoint_at e.0 old.state) frames false got.payload_is))
 
   refused_step : (code : Hr) → AnswersPlan faults told_by (λ st. period_plan st e.0) code [] old mid →
       AnswersStep faults told_by (event.Period e) code [] old mid
   refused_step code got =
       untold_step faults told_by (event.Period e) code [] old mid got
-      (ap not (nothing_whole old.state got.given (endpoint_at e.0 old.state) got.answers got.payload-is))
+      (ap not (nothing_whole old.state got.given (endpoint_at e.0 old.state) got.answers got.payload_is))
 
   answered_step : (answer : Result Payload Hr) → IfOk answer IsPeriod →
       AnswersPlan faults told_by (λ st. period_plan st e.0) (code_of answer) (payload_of answer) old mid →

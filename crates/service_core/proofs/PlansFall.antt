@@ -7,7 +7,8 @@ use Rattle.ca_stage.specs.Moves.{StreamMove, of_client}
 use Rattle.session_manager.specs.declared.session.Session.{Session}
 use Rattle.device_registry.specs.declared.endpoint.Endpoint.{Endpoint}
 use Rattle.ca_machine.specs.State.{State}
-use Rattle.ca_machine.specs.Plan.{Outcome, Plan, Answer, outcome_of, answered, granted, unless_refused, if_found, plain, with_memory}
+use Rattle.ca_machine.specs.Plan.{Outcome, Plan, Answer, outcome_of, answered, granted, unless_refused, if_found, plain}
+use Rattle.ca_machine.specs.Plan.{with_memory}
 use Rattle.ca_machine.specs.Plan.Answer.{out_of_memory}
 use Rattle.ca_machine.specs.SharedRows.{with_stream, with_endpoint}
 use Rattle.ca_machine.specs.Sessions.{with_session}
@@ -68,8 +69,8 @@ pub of_session : (st : State) (s : Option Session) (f : Session → Outcome) →
 of_session st None f h = all_still st.stage
 of_session st (Some s) f h = h s
 
-pub keeps_still : (st : State) (rows : List (Row Hr)) (s : Option Stream) (after : State) → AllFell st.stage after.stage →
-    Keeps st (plain rows (with_stream st s (λ s. granted [] [] after)))
+pub keeps_still : (st : State) (rows : List (Row Hr)) (s : Option Stream) (after : State) →
+    AllFell st.stage after.stage → Keeps st (plain rows (with_stream st s (λ s. granted [] [] after)))
 keeps_still st rows s after h =
     keeps_plain st rows (with_stream st s (λ s. granted [] [] after))
     (of_stream st s (λ s. granted [] [] after) (λ s. h))

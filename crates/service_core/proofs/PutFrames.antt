@@ -11,18 +11,18 @@ use Rattle.buffer_ring.specs.declared.stores.Put.TheVariants as put
 use Rattle.buffer_ring.specs.Kept.{Kept, PutsWords}
 
 -- more frames go in: they are the first of those that are left
-pub batch_goes_in : (channels left count block : ℕ) (items batch rest now after : List ℕ) (all : List (List ℤ)) →
-    count ≤ left → block ≡ channels * 2
-    → now ≡ take (count * block) rest → after ≡ drop (count * block) rest
+pub batch_goes_in : (channels left count frame_size : ℕ) (items batch rest now after : List ℕ) (all : List (List ℤ)) →
+    count ≤ left → frame_size ≡ channels * 2
+    → now ≡ take (count * frame_size) rest → after ≡ drop (count * frame_size) rest
     → map (frame_of channels) batch ≡ frames_from count channels now
     → map (frame_of channels) items ++ frames_from left channels rest ≡ all
     → map (frame_of channels) (items ++ batch) ++ frames_from (left - count) channels after ≡ all
-batch_goes_in channels left count block items batch rest now after all le is now-is after-is batch-is so_far =
-    let size : count * block ≡ count * (channels * 2) = ap (λ (n : ℕ). count * n) is in
+batch_goes_in channels left count frame_size items batch rest now after all le is now-is after_is batch-is so_far =
+    let size : count * frame_size ≡ count * (channels * 2) = ap (λ (n : ℕ). count * n) is in
     let both : count + (left - count) ≡ left = omega (arith, le) in
     let split : frames_from left channels rest
     ≡ frames_from count channels now ++ frames_from (left - count) channels after =
-    rw (now-is, after-is, size)
+    rw (now-is, after_is, size)
     (ap (λ (n : ℕ). frames_from n channels rest) (sym both) ∙ frames_split count (left - count) channels rest) in
     let f : List ℕ → List (List ℤ) = map (frame_of channels) in
     rw (map-append, batch-is)

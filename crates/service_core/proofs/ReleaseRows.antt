@@ -1,5 +1,6 @@
 -- What the rows of data calls leave, and that a size beyond all frames stands for any other such size.
-use Rattle.std.proofs.Common.{◌≡◌, ◌≢◌, ℕ, zero, suc, ◌+◌, ◌-◌, ◌*◌, ◌/◌, ◌<◌, ◌≤◌, ◌==◌, ◌&&◌, ◌||◌, not, nat_lt, min, [], ◌∷◌}
+use Rattle.std.proofs.Common.{◌≡◌, ◌≢◌, ℕ, zero, suc, ◌+◌, ◌-◌, ◌*◌, ◌/◌, ◌<◌, ◌≤◌, ◌==◌, ◌&&◌, ◌||◌, not, nat_lt, min}
+use Rattle.std.proofs.Common.{[], ◌∷◌}
 use Rattle.std.proofs.Common.{length, Bool, true, false, Option, Some, None, IfSome, is_none, is_some, refl, sym, ap}
 use Rattle.std.proofs.Common.{ap₂, ◌∙◌, arith, if◌then◌else◌, eqb, eqb-true}
 use Rattle.std.proofs.Math.Nat.{mul-le-mul_left}
@@ -18,7 +19,8 @@ use Rattle.ca_base.specs.declared.values.TheConstants.{BUFFER_SILENT}
 use Rattle.ca_base.specs.Rows.{first}
 use Rattle.client_state.specs.declared.check.DataCall.TheVariants as data_call
 use Rattle.client_state.specs.declared.side.ClientSide.{ClientSide}
-use Rattle.client_state.specs.Rows.{has_wrong_size, is_closed, is_lease_below, is_render, is_shut_down, padding_of, side_rows}
+use Rattle.client_state.specs.Rows.{has_wrong_size, is_closed, is_lease_below, is_render, is_shut_down, padding_of}
+use Rattle.client_state.specs.Rows.{side_rows}
 use Rattle.buffer_ring.specs.Kept.{Kept}
 use Rattle.ca_stage.specs.Stage.{is_render as renders_kind}
 use Rattle.ca_machine.specs.Data.{dir_of}
@@ -56,8 +58,9 @@ same_test : (size x most : ℕ) → x < most → eqb (min size most) x ≡ eqb s
 same_test size x most lt = grind (arith, nat_tests)
 
 -- a size of so many frames is far below 2 ^ 32
-small_size : (frames block n : ℕ) → frames ≤ n → n ≤ MAX_STORE_WORDS → block ≤ 8 → frames * block < 4294967295
-small_size frames block n few small narrow = omega (arith, mul-le-mul_left frames narrow)
+small_size : (frames frame_size n : ℕ) → frames ≤ n → n ≤ MAX_STORE_WORDS → frame_size ≤ 8 →
+    frames * frame_size < 4294967295
+small_size frames frame_size n few small narrow = omega (arith, mul-le-mul_left frames narrow)
 
 not_less : (n m : ℕ) → nat_lt n m ≡ false → m ≤ n
 not_less n m h = grind (arith, nat_tests)
@@ -84,8 +87,8 @@ size_stands side frames flags size seen small narrow =
 
 -- ---- what passes
 
--- no row refused: the stream plays, the gate is open, enough is leased, the data have the size of the frames unless they are silent, and
--- the count stays in range
+-- no row refused: the stream plays, the gate is open, enough is leased, the data have the size of the frames unless
+-- they are silent, and the count stays in range
 pub record PassesRelease (side : ClientSide) (frames flags size : ℕ) (seen : Seen) : Type 0 where
   pub plays : is_render side.dir ≡ true
   pub opens : seen.gate ≡ gate.Open

@@ -117,7 +117,7 @@ module _ (devices : SameDevicesAreQuiet) (sessions : SameSessionsAreQuiet) where
   setting_step faults told_by conn tag x s result payload old mid was h apart is got =
       let it : Sets x s = sets x s h in
       let same : noted mid.state ≡ noted old.state =
-      ap noted (got.after-is ∙ ap (λ p. (outcome_of old.state p got.given).after) (it.planned old.state conn.0))
+      ap noted (got.after_is ∙ ap (λ p. (outcome_of old.state p got.given).after) (it.planned old.state conn.0))
       ∙ noted_set old.state conn.0 s.0 it.by got.given in
       told_by_notices faults told_by (event.Call conn tag x) result payload old mid got
       (setting_notices_by x was mid.state)

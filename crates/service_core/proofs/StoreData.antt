@@ -12,10 +12,11 @@ use Rattle.client_state.specs.Frames.{frames_in}
 use Rattle.ca_stage.specs.Stage.{BufferData, Frame, Packet}
 use Rattle.buffer_ring.specs.declared.step.Deed.{Deed}
 use Rattle.buffer_ring.specs.declared.step.Deed.TheVariants as deed
-use Rattle.buffer_ring.specs.declared.step.Step.{Step}
-use Rattle.buffer_ring.specs.declared.step.Step.TheVariants as step
+use Rattle.buffer_ring.specs.declared.step.StoreStep.{StoreStep}
+use Rattle.buffer_ring.specs.declared.step.StoreStep.TheVariants as step
 use Rattle.buffer_ring.specs.Kept.{Kept, RunsSteps, kept_after}
-use Rattle.period_engine.specs.Agreement.{Agrees, AgreesWith, ArePacked, IsPacked, Layout, data_after, data_on, words_of}
+use Rattle.period_engine.specs.Agreement.{Agrees, AgreesWith, ArePacked, IsPacked, Layout, data_after, data_on}
+use Rattle.period_engine.specs.Agreement.{words_of}
 use Rattle.period_engine.specs.Packed.{packet_of, packets_in}
 use Rattle.period_engine.proofs.PacketLists.{length-packets_in, packets_in-append, packets_in-drop, packets_in-nil}
 use Rattle.service_core.specs.Core.{ArePackets, data_in}
@@ -102,8 +103,9 @@ module _ (channels period count : ℕ) (leased : Option ℕ) where
   agrees_with plays (deed.Closes reason) found k e whole = tt
 
   -- after steps
-  pub runs_packed : (plays : Bool) (ss : List Step) (k new : Kept) → ArePacked (layout_by plays channels period) ss →
-      ArePackets (layout_by plays channels period) k.words → RunsSteps k ss new →
+  pub runs_packed : (plays : Bool) (ss : List StoreStep) (k new : Kept) →
+      ArePacked (layout_by plays channels period) ss → ArePackets (layout_by plays channels period) k.words →
+      RunsSteps k ss new →
       ArePackets (layout_by plays channels period) new.words
   runs_packed plays [] k new packs whole run =
       subst (λ j. ArePackets (layout_by plays channels period) j.words) (sym run) whole
@@ -116,7 +118,7 @@ module _ (channels period count : ℕ) (leased : Option ℕ) where
       runs_packed plays ss run.0 new packs
       (subst (λ j. ArePackets (layout_by plays channels period) j.words) (sym run.1.1) whole) run.2
 
-  pub runs_data : (plays : Bool) (ss : List Step) (k new : Kept) → ArePacked (layout_by plays channels period) ss →
+  pub runs_data : (plays : Bool) (ss : List StoreStep) (k new : Kept) → ArePacked (layout_by plays channels period) ss →
       ArePackets (layout_by plays channels period) k.words → RunsSteps k ss new →
       data_after (layout_by plays channels period) ss (data_of plays k) ≡ data_of plays new
   runs_data plays [] k new packs whole run = ap (data_of plays) (sym run)
@@ -139,8 +141,9 @@ module _ (channels period count : ℕ) (leased : Option ℕ) where
       slice_get-map (frame_of channels) k.words place ∙ ap (option_map (frame_of channels)) e
   reads_frame false place word k e is = absurd (false≢true is)
 
-  pub runs_agree : (plays : Bool) (ss : List Step) (k new : Kept) → ArePacked (layout_by plays channels period) ss →
-      ArePackets (layout_by plays channels period) k.words → RunsSteps k ss new →
+  pub runs_agree : (plays : Bool) (ss : List StoreStep) (k new : Kept) →
+      ArePacked (layout_by plays channels period) ss → ArePackets (layout_by plays channels period) k.words →
+      RunsSteps k ss new →
       Agrees (layout_by plays channels period) ss (data_of plays k)
   runs_agree plays [] k new packs whole run = tt
   runs_agree plays (step.Acts found gate d ∷ ss) k new packs whole run = (

@@ -5,7 +5,9 @@ use Rattle.std.specs.List.{AllByRecursion}
 use Rattle.std.proofs.lemmas.Bool.{true≢false}
 use Rattle.std.proofs.lemmas.Option.{same_Some}
 use Rattle.ca_stage.specs.Stage.{Stream, Stage, padding}
-use Rattle.ca_stage.specs.Moves.{StreamMove, leased, released, read, started, stopped, reset, closed, picked, retired, fed, Move, added, opened, of_client, sounded, finished, captured, moved, as_opened, is_open_of, stream_after, after_move, after_moves, stream_at}
+use Rattle.ca_stage.specs.Moves.{StreamMove, leased, released, read, started, stopped, reset, closed, picked, retired}
+use Rattle.ca_stage.specs.Moves.{fed, Move, added, opened, of_client, sounded, finished, captured, moved, as_opened}
+use Rattle.ca_stage.specs.Moves.{is_open_of, stream_after, after_move, after_moves, stream_at}
 use Rattle.ca_stage.specs.Order.{is_among}
 use Rattle.ca_stage.specs.Present.{present}
 use Rattle.ca_stage.proofs.Lists.{chosen, chosen_by, all_found, found_passes}

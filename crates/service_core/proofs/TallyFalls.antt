@@ -11,7 +11,8 @@ use Rattle.ca_stage.specs.Stage.{Frame, Stream, Stage, padding, is_open}
 use Rattle.ca_stage.specs.Moves.{StreamMove, reset, closed, picked, retired, Move, of_client, Mixing, after_moves}
 use Rattle.ca_stage.specs.Moves.{moved}
 use Rattle.ca_stage.specs.Mix.{mixed}
-use Rattle.ca_stage.specs.Periods.{failed, fed_if, is_hearing, is_open_on, is_playing, is_recording, picked_on, played, sub_steps}
+use Rattle.ca_stage.specs.Periods.{failed, fed_if, is_hearing, is_open_on, is_playing, is_recording, picked_on, played}
+use Rattle.ca_stage.specs.Periods.{sub_steps}
 use Rattle.ca_stage.specs.Given.{whole_frames}
 use Rattle.device_registry.specs.declared.endpoint.Endpoint.{Endpoint}
 use Rattle.ca_machine.specs.Periods.{recording_moves}
@@ -22,8 +23,10 @@ use Rattle.ca_stage.specs.Present.{present, AreGone, IsGone}
 use Rattle.ca_stage.specs.Tally.{Tally, counted, tally_after}
 use Rattle.ca_stage.proofs.Counting.{counted_none, counted_twice, counted_most}
 use Rattle.ca_stage.proofs.Lists.{all_of}
-use Rattle.ca_stage.proofs.MapMoves.{all_closed, is_open_among, moved_where, moves_to, once_distinct, streams_moved_once}
-use Rattle.ca_stage.proofs.MapTallies.{AddsTo, amount_where, closes_tally, sum_alike, sum_both, sum_map, tally_moved_once}
+use Rattle.ca_stage.proofs.MapMoves.{all_closed, is_open_among, moved_where, moves_to, once_distinct}
+use Rattle.ca_stage.proofs.MapMoves.{streams_moved_once}
+use Rattle.ca_stage.proofs.MapTallies.{AddsTo, amount_where, closes_tally, sum_alike, sum_both, sum_map}
+use Rattle.ca_stage.proofs.MapTallies.{tally_moved_once}
 use Rattle.ca_stage.proofs.MapPeriods.{tally_of_failed, tally_of_whole}
 use Rattle.ca_stage.proofs.Periods.{period_by}
 

@@ -19,15 +19,18 @@ use Rattle.ca_stage.specs.Tally.{counted}
 use Rattle.ca_stage.proofs.Counting.{counted_none}
 use Rattle.ca_machine.specs.declared.state.Client.{Client}
 use Rattle.ca_machine.specs.State.{State, live_clients, is_client_of, endpoint_at}
-use Rattle.ca_machine.specs.Plan.{Outcome, Answer, bytes_given, outcome_of, granted, refused, unless_refused, is_whole, moved}
+use Rattle.ca_machine.specs.Plan.{Outcome, Answer, bytes_given, outcome_of, granted, refused, unless_refused, is_whole}
+use Rattle.ca_machine.specs.Plan.{moved}
 use Rattle.ca_machine.specs.SharedRows.{with_stream}
 use Rattle.ca_machine.specs.Clients.{closes, hangup_plan, is_client_on, leaving, release_plan, without_connection}
 use Rattle.ca_machine.specs.Streams.{reset_plan}
-use Rattle.ca_machine.specs.Periods.{after_period, frames_recorded, mixing_of, period_by, period_frames, period_of, period_payload, period_plan, period_rows, recording, recording_moves, sounding}
+use Rattle.ca_machine.specs.Periods.{after_period, frames_recorded, mixing_of, period_by, period_frames, period_of}
+use Rattle.ca_machine.specs.Periods.{period_payload, period_plan, period_rows, recording, recording_moves, sounding}
 use Rattle.ca_machine.proofs.LiveClients.{gone_left}
 use Rattle.ca_machine.proofs.ClosesOfClients.{closes_are}
 use Rattle.service_core.specs.Counting.{HasCounts}
-use Rattle.service_core.proofs.TallyFalls.{closes_count, failed_counts, left_padding, lost_counts, open_padding, recorded_counts, reset_counts, whole_counts}
+use Rattle.service_core.proofs.TallyFalls.{closes_count, failed_counts, left_padding, lost_counts, open_padding}
+use Rattle.service_core.proofs.TallyFalls.{recorded_counts, reset_counts, whole_counts}
 
 -- by how much fewer frames are pending in open streams
 abbrev pub fallen : State → State → ℕ

@@ -1,5 +1,6 @@
 -- Events that give no frame a fate leave the tally.
-use Rattle.std.proofs.Common.{◌≡◌, ℕ, ◌||◌, not, List, [], ◌∷◌, Bool, true, false, Option, Some, None, refl, if◌then◌else◌, option_map}
+use Rattle.std.proofs.Common.{◌≡◌, ℕ, ◌||◌, not, List, [], ◌∷◌, Bool, true, false, Option, Some, None, refl}
+use Rattle.std.proofs.Common.{if◌then◌else◌, option_map}
 use Rattle.ca_base.specs.declared.codes.Hr.{Hr}
 use Rattle.ca_base.specs.declared.codes.TheConstants.Hr as hr
 use Rattle.ca_base.specs.Rows.{Row, first}
@@ -14,15 +15,20 @@ use Rattle.session_manager.specs.declared.session.Session.{Session}
 use Rattle.session_manager.specs.Sessions.{session_at}
 use Rattle.ca_machine.specs.declared.state.Client.{Client}
 use Rattle.ca_machine.specs.State.{State, client_of, endpoint_at}
-use Rattle.ca_machine.specs.Plan.{Outcome, Plan, Answer, answered, granted, if_found, outcome_of, plain, unless_refused, with_memory}
+use Rattle.ca_machine.specs.Plan.{Outcome, Plan, Answer, answered, granted, if_found, outcome_of, plain, unless_refused}
+use Rattle.ca_machine.specs.Plan.{with_memory}
 use Rattle.ca_machine.specs.Plan.Answer.{out_of_memory}
 use Rattle.ca_machine.specs.SharedRows.{endpoint_of, with_endpoint, with_stream}
 use Rattle.ca_machine.specs.Clients.{open_plan}
-use Rattle.ca_machine.specs.Endpoints.{default_at, device_info_plan, endpoint_named, endpoint_told, enum_endpoints_plan, number_told}
+use Rattle.ca_machine.specs.Endpoints.{default_at, device_info_plan, endpoint_named, endpoint_told, enum_endpoints_plan}
+use Rattle.ca_machine.specs.Endpoints.{number_told}
 use Rattle.ca_machine.specs.Registrations.{take_notices_plan}
-use Rattle.ca_machine.specs.Streams.{Opening, initialize_plan, initialized, supported, is_faulty, matches, format_payload, with_stream_level}
-use Rattle.ca_machine.specs.Sessions.{enum_sessions_plan, get_session_plan, session_payload, state_of_session, with_session}
-use Rattle.ca_machine.specs.Data.{capture_get_buffer_plan, capture_release_buffer_plan, first_packet, frames_released, get_buffer_plan, get_next_packet_size_plan, packets_read, release_buffer_plan}
+use Rattle.ca_machine.specs.Streams.{Opening, initialize_plan, initialized, supported, is_faulty, matches}
+use Rattle.ca_machine.specs.Streams.{format_payload, with_stream_level}
+use Rattle.ca_machine.specs.Sessions.{enum_sessions_plan, get_session_plan, session_payload, state_of_session}
+use Rattle.ca_machine.specs.Sessions.{with_session}
+use Rattle.ca_machine.specs.Data.{capture_get_buffer_plan, capture_release_buffer_plan, first_packet, frames_released}
+use Rattle.ca_machine.specs.Data.{get_buffer_plan, get_next_packet_size_plan, packets_read, release_buffer_plan}
 use Rattle.ca_machine.specs.Step.{call_plan}
 use Rattle.service_board.specs.Calls.{IsPlainCall}
 use Rattle.service_core.proofs.EventsFall.{IsControlCall}

@@ -45,11 +45,11 @@ module _ {D : Type 0} (faults : D → ℕ) (told_by : D → Option (List DeviceL
   step_is : (b : Bool) → tells e got.given ≡ b → step old.state e got.given ≡ told old.state e b o
   step_is b is = ap (λ b. told old.state e b o) is
 
-  after_is : (b : Bool) → tells e got.given ≡ b →
+  told_is : (b : Bool) → tells e got.given ≡ b →
       after_told (b && result.0 == hr.S_OK.0) (made old.state e mid.state) mid.state
       ≡ (step old.state e got.given).after
-  after_is b is =
-      ap₂ (λ (code : Hr) st. after_told (b && code.0 == hr.S_OK.0) (made old.state e st) st) got.result-is got.after-is
+  told_is b is =
+      ap₂ (λ (code : Hr) st. after_told (b && code.0 == hr.S_OK.0) (made old.state e st) st) got.result_is got.after_is
       ∙ sym (told_after old.state e b o)
       ∙ sym (ap (λ o. o.after) (step_is b is))
 
@@ -60,11 +60,11 @@ module _ {D : Type 0} (faults : D → ℕ) (told_by : D → Option (List DeviceL
   told_step b is = record {
     given = got.given;
     answers = got.answers;
-    result-is = got.result-is
+    result_is = got.result_is
         ∙ sym (told_same (λ o. o.result) (λ o st. refl) old.state e (tells e got.given) o);
-    payload-is = got.payload-is
+    payload_is = got.payload_is
         ∙ sym (told_same (λ o. o.payload) (λ o st. refl) old.state e (tells e got.given) o);
-    after-is = after_is b is;
+    after_is = told_is b is;
     passes = subst
         (λ pieces. Passes (outside faults told_by old.devices) pieces got.given (outside faults told_by mid.devices))
         (sym (told_same (λ o. o.output) (λ o st. refl) old.state e (tells e got.given) o)) got.passes;

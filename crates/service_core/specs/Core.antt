@@ -66,7 +66,7 @@ abbrev pub core_data : {F : Type 0} → (F → Kept) → StreamEntry (BothEnds F
 core_data kept e =
     data_in (layout_of e) (kept e.store.store).words e.store.side.released e.store.side.lease
 
--- the same by the client's number; none where the client has no entry
+-- the same by the client's number; none if the client has no entry
 abbrev pub core_datas : {F : Type 0} → (F → Kept) → List (StreamEntry (BothEnds F)) → ℕ → BufferData
 core_datas kept [] client = no_data
 core_datas kept (e ∷ entries) client =

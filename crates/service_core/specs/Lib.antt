@@ -1,4 +1,5 @@
 pub mod BothEnds
+pub mod Packets
 pub mod Putting
 pub mod Core
 pub mod DataCalls

@@ -2,7 +2,7 @@
 use Rattle.std.specs.Prelude.{◌≡◌, ℕ, ◌+◌, length}
 use Rattle.buffer_ring.specs.Kept.{Kept}
 
--- a store took so many words more, and is the same otherwise
+-- a store took `count` words more, and is the same otherwise
 pub record TookMore (count : ℕ) (old new : Kept) : Type 0 where
   pub size : new.cap ≡ old.cap
   pub way : new.dir ≡ old.dir

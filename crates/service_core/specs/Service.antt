@@ -41,9 +41,9 @@ pub record AnswersStep {D : Type 0} (faults : D → ℕ) (told : D → Option (L
     (payload : List ℕ) (old new : MachineView D) : Type 0 where
   pub given : List Answer
   pub answers : AreAnswers (asks old.state e) given
-  pub result-is : result ≡ (step old.state e given).result
-  pub payload-is : payload ≡ (step old.state e given).payload
-  pub after-is : new.state ≡ (step old.state e given).after
+  pub result_is : result ≡ (step old.state e given).result
+  pub payload_is : payload ≡ (step old.state e given).payload
+  pub after_is : new.state ≡ (step old.state e given).after
   pub passes : Passes (outside faults told old.devices) (step old.state e given).output given
       (outside faults told new.devices)
 

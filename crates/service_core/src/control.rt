@@ -8,7 +8,7 @@ ghost use Rattle.ca_machine.specs.Step.{call_plan, device_plan};
 ghost use Rattle.ca_machine.specs.Streams.{reset_plan};
 ghost use Rattle.reply_payload.specs.Answers.{code_of, payload_of};
 ghost use Rattle.service_book.specs.Openings.{opening_plan};
-ghost use Rattle.service_board.specs.Calls.{IsPlainCall, IsShortCall};
+ghost use Rattle.service_board.specs.Calls.{IsPlainCall, IsSmallCall};
 ghost use Rattle.service_core.specs.Service.{AnswersPlan};
 
 use crate::Core;
@@ -140,7 +140,7 @@ impl<D: Devices, F: FrameStore> Core<D, F> {
 
     /// A call of a connection that answers a few bytes.
     pub(crate) fn call(&mut self, conn: ConnNo, call: &Call) -> Result<Payload, Hr>
-        requires { IsShortCall call.now }
+        requires { IsSmallCall call.now }
         ensures { AnswersPlan D.faults D.told (λ st. call_plan st conn.0 call.now)
             (code_of result) (payload_of result) self.old self.new }
     {

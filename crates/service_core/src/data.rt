@@ -1,6 +1,6 @@
 //! Data calls on a stream whose both ends are here (IAudioClient, IAudioRenderClient, IAudioCaptureClient).
 
-ghost use Rattle.std.specs.Prelude.{◌≡◌, ◌==◌, ◌≤◌, min, [], length, Some, IfOk, IfErr, if◌then◌else◌};
+ghost use Rattle.std.specs.Prelude.{◌≡◌, ◌==◌, ◌≤◌, min, length, Some, IfOk, IfErr, if◌then◌else◌};
 ghost use Rattle.std.specs.Result.{result_err};
 ghost use Rattle.ca_base.specs.Rows.{first};
 ghost use Rattle.client_state.specs.Rows.{side_rows};
@@ -13,8 +13,10 @@ ghost use Rattle.period_engine.specs.Entries.{FitsStore};
 ghost use Rattle.reply_payload.specs.Answers.{code_of, payload_of, told_code};
 ghost use Rattle.reply_payload.specs.declared.payload.TheConstants.{REPLY_ROOM};
 ghost use Rattle.service_board.specs.InOrder.{InOrder};
-ghost use Rattle.service_core.specs.Core.{Goes, HasSide, HaveSides, IsLooked, IsTouched, Reads, Releases, seen_in};
+ghost use Rattle.service_core.specs.Core.{Goes, HasSide, IsLooked, IsTouched, Reads, Releases, seen_in};
 ghost use Rattle.service_core.specs.DataCalls.{FindsEntry, RefusesData};
+ghost use Rattle.service_core.specs.Packets.{IsReplyRoom};
+ghost use Rattle.service_core.specs.Service.{IsCore};
 
 use crate::BothEnds;
 use crate::packets::put_packet;
@@ -42,7 +44,7 @@ fn check<F: FrameStore>(entry: &mut StreamEntry<BothEnds<F>>, call: &DataCall) -
     }
 }
 
-/// IAudioRenderClient::GetBuffer on its stream: leases so many frames.
+/// IAudioRenderClient::GetBuffer on its stream: leases `frames` frames.
 fn lease<F: FrameStore>(entry: &mut StreamEntry<BothEnds<F>>, frames: u32) -> Result<(), Hr>
     ensures row { result_err result ≡ first (side_rows entry.old.store.side (data_call.Get frames)
         (seen_in (F.kept entry.old.store.store))) }
@@ -55,7 +57,7 @@ fn lease<F: FrameStore>(entry: &mut StreamEntry<BothEnds<F>>, frames: u32) -> Re
     Ok(())
 }
 
-/// The size of a call's data. Sizes from 2^32 - 1 on stand for one another: no frames that fit a store have so many.
+/// The size of a call's data. Sizes from 2^32 - 1 on stand for one another: no frames that fit in a store are as long.
 fn size_of(bytes: &[u8]) -> u32
     ensures { result ≡ min (length bytes.now) 4294967295 }
 {
@@ -63,7 +65,7 @@ fn size_of(bytes: &[u8]) -> u32
 }
 
 /// IAudioRenderClient::ReleaseBuffer on its stream: the frames go into the store, and the lease ends.
-fn release<F: FrameStore>(
+fn release_frames<F: FrameStore>(
     entry: &mut StreamEntry<BothEnds<F>>,
     frames: u32,
     flags: u32,
@@ -153,33 +155,29 @@ pub fn get_current_padding<D: Devices, F: FrameStore>(
     conn: ConnNo,
     client: ClientNo,
 ) -> Result<Payload, Hr>
-    requires order { InOrder (λ ends. F.state ends.store) board.old }
-    requires sides { HaveSides F.kept board.old }
+    requires core { IsCore F.state F.kept board.old }
     ensures goes { (tally : Tally) → Goes D.faults D.told F.kept
         (λ st. get_current_padding_plan st conn.0 client.0) (code_of result) (payload_of result) tally
         board.old board.new }
-    ensures order { InOrder (λ ends. F.state ends.store) board.new }
-    ensures sides { HaveSides F.kept board.new }
+    ensures core { IsCore F.state F.kept board.new }
 {
     let at = data_place(board, conn, client)?;
     let words = check(&mut board.entries[at], &DataCall::Padding)?;
     Ok(Payload::Number(board.entries[at].store.side.padding(words)))
 }
 
-/// IAudioRenderClient::GetBuffer: leases so many frames.
+/// IAudioRenderClient::GetBuffer: leases `frames` frames.
 pub fn get_buffer<D: Devices, F: FrameStore>(
     board: &mut Board<D, BothEnds<F>>,
     conn: ConnNo,
     client: ClientNo,
     frames: u32,
 ) -> Result<Payload, Hr>
-    requires order { InOrder (λ ends. F.state ends.store) board.old }
-    requires sides { HaveSides F.kept board.old }
+    requires core { IsCore F.state F.kept board.old }
     ensures goes { (tally : Tally) → Goes D.faults D.told F.kept
         (λ st. get_buffer_plan st conn.0 client.0 frames) (code_of result) (payload_of result) tally
         board.old board.new }
-    ensures order { InOrder (λ ends. F.state ends.store) board.new }
-    ensures sides { HaveSides F.kept board.new }
+    ensures core { IsCore F.state F.kept board.new }
 {
     let at = data_place(board, conn, client)?;
     lease(&mut board.entries[at], frames)?;
@@ -195,20 +193,18 @@ pub fn release_buffer<D: Devices, F: FrameStore>(
     flags: u32,
     bytes: &[u8],
 ) -> Result<Payload, Hr>
-    requires order { InOrder (λ ends. F.state ends.store) board.old }
-    requires sides { HaveSides F.kept board.old }
+    requires core { IsCore F.state F.kept board.old }
     ensures goes { (tally : Tally) → Goes D.faults D.told F.kept
         (λ st. release_buffer_plan st conn.0 client.0 frames flags bytes.now) (code_of result)
         (payload_of result) tally board.old board.new }
-    ensures order { InOrder (λ ends. F.state ends.store) board.new }
-    ensures sides { HaveSides F.kept board.new }
+    ensures core { IsCore F.state F.kept board.new }
 {
     let at = data_place(board, conn, client)?;
-    release(&mut board.entries[at], frames, flags, bytes)?;
+    release_frames(&mut board.entries[at], frames, flags, bytes)?;
     Ok(Payload::Nothing)
 }
 
-/// The frames of the next packet in a store that has so many words.
+/// The frames of the next packet in a store that has `words` words.
 fn next_frames(side: &ClientSide, words: u32) -> u32
     ensures { result ≡ (if words == 0 then 0 else side.now.period) }
 {
@@ -224,13 +220,11 @@ pub fn get_next_packet_size<D: Devices, F: FrameStore>(
     conn: ConnNo,
     client: ClientNo,
 ) -> Result<Payload, Hr>
-    requires order { InOrder (λ ends. F.state ends.store) board.old }
-    requires sides { HaveSides F.kept board.old }
+    requires core { IsCore F.state F.kept board.old }
     ensures goes { (tally : Tally) → Goes D.faults D.told F.kept
         (λ st. get_next_packet_size_plan st conn.0 client.0) (code_of result) (payload_of result) tally
         board.old board.new }
-    ensures order { InOrder (λ ends. F.state ends.store) board.new }
-    ensures sides { HaveSides F.kept board.new }
+    ensures core { IsCore F.state F.kept board.new }
 {
     let at = data_place(board, conn, client)?;
     let words = check(&mut board.entries[at], &DataCall::NextSize)?;
@@ -244,15 +238,12 @@ pub fn capture_get_buffer<D: Devices, F: FrameStore>(
     client: ClientNo,
     out: &mut Bytes,
 ) -> Result<(), Hr>
-    requires order { InOrder (λ ends. F.state ends.store) board.old }
-    requires sides { HaveSides F.kept board.old }
-    requires empty { out.old.list ≡ [] }
-    requires room { REPLY_ROOM ≤ out.old.capacity }
+    requires core { IsCore F.state F.kept board.old }
+    requires reply { IsReplyRoom out.old }
     ensures goes { (tally : Tally) → Goes D.faults D.told F.kept
         (λ st. capture_get_buffer_plan st conn.0 client.0) (told_code result) out.new.list tally
         board.old board.new }
-    ensures order { InOrder (λ ends. F.state ends.store) board.new }
-    ensures sides { HaveSides F.kept board.new }
+    ensures core { IsCore F.state F.kept board.new }
     ensures within { length out.new.list ≤ REPLY_ROOM }
     ensures keeps { out.old.capacity ≤ out.new.capacity }
 {
@@ -269,13 +260,11 @@ pub fn capture_release_buffer<D: Devices, F: FrameStore>(
     client: ClientNo,
     frames: u32,
 ) -> Result<Payload, Hr>
-    requires order { InOrder (λ ends. F.state ends.store) board.old }
-    requires sides { HaveSides F.kept board.old }
+    requires core { IsCore F.state F.kept board.old }
     ensures goes { (tally : Tally) → Goes D.faults D.told F.kept
         (λ st. capture_release_buffer_plan st conn.0 client.0 frames) (code_of result) (payload_of result) tally
         board.old board.new }
-    ensures order { InOrder (λ ends. F.state ends.store) board.new }
-    ensures sides { HaveSides F.kept board.new }
+    ensures core { IsCore F.state F.kept board.new }
 {
     let at = data_place(board, conn, client)?;
     release_packet(&mut board.entries[at], frames)?;

@@ -1,10 +1,11 @@
 //! The service as a desk: it answers each event as the machine does.
 
-ghost use Rattle.std.specs.Prelude.{◌≡◌, ◌≤◌, [], length};
+ghost use Rattle.std.specs.Prelude.{◌≡◌, ◌≤◌, [], length, IsOk, OnErr, OnOk};
 ghost use Rattle.ca_machine.specs.Data.{capture_get_buffer_plan};
 ghost use Rattle.ca_machine.specs.Registrations.{take_notices_plan};
 ghost use Rattle.ca_machine.specs.Step.{call_plan, plan};
 ghost use Rattle.ca_machine.specs.View.{AnswersEvent};
+ghost use Rattle.ca_model.specs.Replies.{FitsFrame, IsSameReply};
 ghost use Rattle.reply_payload.specs.Answers.{code_of, payload_of, told_code};
 ghost use Rattle.reply_payload.specs.declared.payload.TheConstants.{REPLY_ROOM};
 ghost use Rattle.service_core.specs.Service.{AnswersPlan, HasHead};
@@ -77,7 +78,7 @@ fn told_code(answer: Result<(), Hr>) -> Hr
 }
 
 impl<D: Devices, F: FrameStore> Core<D, F> {
-    /// The notices that a connection takes, at most so many: a call that waits for one is answered what there is.
+    /// The notices that a connection takes, at most `max`: a call that waits for one is answered what there is.
     fn take_notices(&mut self, conn: ConnNo, max: u32, payload: &mut Bytes) -> Hr
         requires empty { payload.old.list ≡ [] }
         requires room { REPLY_ROOM ≤ payload.old.capacity }
@@ -154,6 +155,36 @@ impl<D: Devices, F: FrameStore> Core<D, F> {
     }
 }
 
+impl<D: Devices, F: FrameStore> Core<D, F> {
+    /// How many bytes the payload of the reply to an event has at most: as many whatever the event is.
+    #[inline(always)]
+    pub fn reply_room(&self, _ev: &Event) -> usize
+        ensures { result ≡ REPLY_ROOM }
+    {
+        REPLY_ROOM
+    }
+
+    /// Answers one event into `out`, whose payload is empty before, by the step of the machine. It answers Ok if the
+    /// payload's capacity is at least `reply_room`. After `NoMemory` the event wasn't taken, and the reply is as
+    /// before.
+    #[inline(always)]
+    pub fn step(&mut self, ev: &Event, out: &mut Reply) -> Result<(), NoMemory>
+        requires { out.old.payload.list ≡ [] }
+        ensures step { OnOk result (AnswersEvent D.faults D.told self.old ev.now out.new self.new) }
+        ensures within { OnOk result (length out.new.payload.list ≤ REPLY_ROOM) }
+        ensures frame { OnOk result (FitsFrame out.new) }
+        ensures keeps { out.old.payload.capacity ≤ out.new.payload.capacity }
+        ensures fits { REPLY_ROOM ≤ out.old.payload.capacity → IsOk result }
+        ensures stays { OnErr result (self.new ≡ self.old) }
+        ensures err { OnErr result (IsSameReply out.old out.new) }
+    {
+        out.payload.reserve(REPLY_ROOM)?;
+        begin(ev, out);
+        out.result = self.answer_and_tell(ev, &mut out.payload);
+        Ok(())
+    }
+}
+
 impl<D: Devices, F: FrameStore> Desk for Core<D, F> {
     ghost answers = { λ old event reply new. AnswersEvent D.faults D.told old event reply new };
 
@@ -162,9 +193,6 @@ impl<D: Devices, F: FrameStore> Desk for Core<D, F> {
     ghost reply_room = { λ _ _. REPLY_ROOM };
 
     fn ask(&mut self, ev: &Event, out: &mut Reply) -> Result<(), NoMemory> {
-        out.payload.reserve(REPLY_ROOM)?;
-        begin(ev, out);
-        out.result = self.step(ev, &mut out.payload);
-        Ok(())
+        self.step(ev, out)
     }
 }

@@ -1,10 +1,11 @@
 //! Packets of a store, as bytes.
 
-ghost use Rattle.std.specs.Prelude.{◌≡◌, suc, ◌+◌, ◌*◌, ◌≤◌, [], length, take};
+ghost use Rattle.std.specs.Prelude.{◌≡◌, suc, ◌≤◌, length, take};
 ghost use Rattle.ca_machine.specs.Data.{packet_bytes};
 ghost use Rattle.period_engine.specs.Packed.{packet_of};
 ghost use Rattle.reply_payload.specs.declared.payload.TheConstants.{REPLY_ROOM};
 ghost use Rattle.service_core.specs.Core.{IsLooked};
+ghost use Rattle.service_core.specs.Packets.{HasPacket, IsReplyRoom};
 
 use crate::BothEnds;
 use buffer_ring::FrameStore;
@@ -17,12 +18,8 @@ const BATCH: u32 = 64;
 
 /// Puts the first packet of an entry's store into the payload of a reply.
 pub fn put_packet<F: FrameStore>(entry: &mut StreamEntry<BothEnds<F>>, out: &mut Bytes)
-    requires packet { suc entry.old.period ≤ length (F.kept entry.old.store.store).words }
-    requires some { 1 ≤ entry.old.channels }
-    requires few { entry.old.channels ≤ 4 }
-    requires empty { out.old.list ≡ [] }
-    requires room { REPLY_ROOM ≤ out.old.capacity }
-    requires fits { 16 + entry.old.period * 8 ≤ REPLY_ROOM }
+    requires packet { HasPacket F.kept entry.old }
+    requires reply { IsReplyRoom out.old }
     ensures list { out.new.list ≡ packet_bytes (packet_of entry.old.channels
         (take (suc entry.old.period) (F.kept entry.old.store.store).words)) }
     ensures within { length out.new.list ≤ REPLY_ROOM }

@@ -14,12 +14,12 @@ use wave_format::words_of;
 /// How many frames are turned into words at a time, on the stack.
 const BATCH: u32 = 64;
 
-/// Puts so many frames of `N` bytes into a store.
-fn put_blocks<F: FrameStore, const N: usize>(store: &mut F, frames: u32, bytes: &[u8])
+/// Puts `frames` frames of `N` bytes into a store.
+fn put_frames_of<F: FrameStore, const N: usize>(store: &mut F, frames: u32, bytes: &[u8])
     requires opens { (F.kept store.old).gate ≡ gate.Open }
     requires room { frames ≤ (F.kept store.old).cap - length (F.kept store.old).words }
     requires size { length bytes.now ≡ frames * N }
-    requires block { IsBlock N }
+    requires frame_size { IsBlock N }
     ensures frames { (channels : ℕ) → N ≡ channels * 2 → frames_in channels (F.kept store.new).words
         ≡ frames_in channels (F.kept store.old).words ++ frames_from frames channels bytes.now }
     ensures took { TookMore frames (F.kept store.old) (F.kept store.new) }
@@ -38,26 +38,26 @@ fn put_blocks<F: FrameStore, const N: usize>(store: &mut F, frames: u32, bytes: 
     }
 }
 
-/// Puts so many frames into a store: their bytes, little-endian, `block` of them a frame.
-pub fn put_frames<F: FrameStore>(store: &mut F, frames: u32, block: u32, bytes: &[u8])
+/// Puts `frames` frames into a store: their bytes, little-endian, `frame_size` of them a frame.
+pub fn put_frames<F: FrameStore>(store: &mut F, frames: u32, frame_size: u32, bytes: &[u8])
     requires opens { (F.kept store.old).gate ≡ gate.Open }
     requires room { frames ≤ (F.kept store.old).cap - length (F.kept store.old).words }
-    requires size { length bytes.now ≡ frames * block }
-    requires block { IsBlock block }
-    ensures frames { (channels : ℕ) → block ≡ channels * 2 → frames_in channels (F.kept store.new).words
+    requires size { length bytes.now ≡ frames * frame_size }
+    requires frame_size { IsBlock frame_size }
+    ensures frames { (channels : ℕ) → frame_size ≡ channels * 2 → frames_in channels (F.kept store.new).words
         ≡ frames_in channels (F.kept store.old).words ++ frames_from frames channels bytes.now }
     ensures took { TookMore frames (F.kept store.old) (F.kept store.new) }
 {
-    match block {
-        2 => put_blocks::<F, 2>(store, frames, bytes),
-        4 => put_blocks::<F, 4>(store, frames, bytes),
-        6 => put_blocks::<F, 6>(store, frames, bytes),
-        8 => put_blocks::<F, 8>(store, frames, bytes),
+    match frame_size {
+        2 => put_frames_of::<F, 2>(store, frames, bytes),
+        4 => put_frames_of::<F, 4>(store, frames, bytes),
+        6 => put_frames_of::<F, 6>(store, frames, bytes),
+        8 => put_frames_of::<F, 8>(store, frames, bytes),
         _ => unreachable!(),
     }
 }
 
-/// Puts so many silent frames into a store.
+/// Puts `frames` silent frames into a store.
 pub fn put_silence<F: FrameStore>(store: &mut F, frames: u32)
     requires opens { (F.kept store.old).gate ≡ gate.Open }
     requires room { frames ≤ (F.kept store.old).cap - length (F.kept store.old).words }
@@ -74,19 +74,25 @@ pub fn put_silence<F: FrameStore>(store: &mut F, frames: u32)
 }
 
 /// Puts the frames of a ReleaseBuffer into a store: silent ones by AUDCLNT_BUFFERFLAGS_SILENT, else those of the bytes,
-/// `block` of them a frame.
-pub fn put_released<F: FrameStore>(store: &mut F, frames: u32, flags: u32, block: u32, bytes: &[u8])
+/// `frame_size` of them a frame.
+pub fn put_released<F: FrameStore>(
+    store: &mut F,
+    frames: u32,
+    flags: u32,
+    frame_size: u32,
+    bytes: &[u8],
+)
     requires opens { (F.kept store.old).gate ≡ gate.Open }
     requires room { frames ≤ (F.kept store.old).cap - length (F.kept store.old).words }
-    requires size { flags ≢ BUFFER_SILENT → length bytes.now ≡ frames * block }
-    requires block { IsBlock block }
-    ensures frames { (channels : ℕ) → block ≡ channels * 2 → frames_in channels (F.kept store.new).words
+    requires size { flags ≢ BUFFER_SILENT → length bytes.now ≡ frames * frame_size }
+    requires frame_size { IsBlock frame_size }
+    ensures frames { (channels : ℕ) → frame_size ≡ channels * 2 → frames_in channels (F.kept store.new).words
         ≡ frames_in channels (F.kept store.old).words ++ frames_released frames flags bytes.now channels }
     ensures took { TookMore frames (F.kept store.old) (F.kept store.new) }
 {
     if flags == BUFFER_SILENT {
         put_silence(store, frames);
     } else {
-        put_frames(store, frames, block, bytes);
+        put_frames(store, frames, frame_size, bytes);
     }
 }

@@ -78,7 +78,7 @@ impl<D: Devices, F: FrameStore> Core<D, F> {
     }
 
     /// Answers an event: its code, and its payload; and tells it to the connections that registered for its notices.
-    pub(crate) fn step(&mut self, ev: &Event, payload: &mut Bytes) -> Hr
+    pub(crate) fn answer_and_tell(&mut self, ev: &Event, payload: &mut Bytes) -> Hr
         requires empty { payload.old.list ≡ [] }
         requires room { REPLY_ROOM ≤ payload.old.capacity }
         ensures answers { AnswersStep D.faults D.told ev.now result payload.new.list self.old self.new }

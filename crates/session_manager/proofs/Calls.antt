@@ -4,13 +4,13 @@ use Rattle.std.proofs.Common.{Ok, Err, set, if◌then◌else◌, eqb-true}
 use Rattle.std.specs.List.{slice_get}
 use Rattle.ca_base.specs.declared.codes.TheConstants.Hr as hr
 use Rattle.ca_base.specs.Rows.{first}
+use Rattle.ca_base.proofs.FoundPlaces.{found_passes}
+use Rattle.ca_base.proofs.Numbered.{changed_there}
 use Rattle.session_manager.specs.declared.changes.Change.{Change}
 use Rattle.session_manager.specs.declared.session.Session.{Session}
 use Rattle.session_manager.specs.Book.{IsList}
 use Rattle.session_manager.specs.Changes.{Sets, after, change_rows, is_wrong}
-use Rattle.session_manager.specs.Sessions.{SessionList, is_session, session_at, with_changed}
-use Rattle.session_manager.proofs.Finding.{found_passes}
-use Rattle.session_manager.proofs.Limits.{changed_there}
+use Rattle.session_manager.specs.Sessions.{SessionList, is_session, number_of, session_at, with_changed}
 
 module _ (number : ℕ) (by : Change) (book : SessionList) where
   -- the session isn't there
@@ -42,5 +42,5 @@ module _ (number : ℕ) (by : Change) (book : SessionList) where
         own = eqb-true s.no.0 number (found_passes (is_session number) book.list s there)
 
         same : set book.list at (after by s) ≡ (with_changed number (after by) book).list
-        same = changed_there (after by) 0 book.made at book.list s h.rise here
+        same = changed_there number_of (after by) 0 book.made at book.list s h.rise here
             ∙ ap (λ n. (with_changed n (after by) book).list) own

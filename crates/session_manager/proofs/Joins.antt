@@ -11,6 +11,7 @@ use Rattle.ca_base.specs.declared.codes.Hr.{Hr}
 use Rattle.ca_base.specs.declared.codes.TheConstants.Hr as hr
 use Rattle.ca_base.specs.declared.limits.TheConstants.{MAX_CONNECTION_NAME, MAX_COUNT, MAX_LEVEL, SESSIONS}
 use Rattle.ca_base.specs.Rows.{first}
+use Rattle.ca_base.proofs.Numbered.{changed_there}
 use Rattle.session_manager.specs.declared.session.TheConstants.{CHANNELS}
 use Rattle.session_manager.specs.declared.session.Kept.{Kept}
 use Rattle.session_manager.specs.declared.session.Session.{Session}
@@ -24,10 +25,10 @@ use Rattle.session_manager.specs.Sessions.{
   joined_to,
   new_session,
   number_joined,
+  number_of as session_number,
   session_for,
   with_count,
 }
-use Rattle.session_manager.proofs.Limits.{changed_there}
 
 -- a new session that no row refuses has its place, and its number
 pub free_room : (key : SessionKey) (book viewed : SessionList) → book ≡ viewed → session_for key book.list ≡ None →
@@ -83,7 +84,7 @@ module _ (key : SessionKey) (kept : Option Kept) (persist : Bool) (channels : �
       ≡ joined key kept persist channels book
   joined_found at s h e here =
       ap (λ (list : List Session). record { list = list; made = book.made })
-      (changed_there (with_count channels) 0 book.made at book.list s h.rise here)
+      (changed_there session_number (with_count channels) 0 book.made at book.list s h.rise here)
       ∙ sym (ap (λ o. joined_to o key kept persist channels book) e)
 
   pub joined_new : session_for key book.list ≡ None →

@@ -1,11 +1,12 @@
 -- The list of sessions: who is there, and who joins (IAudioClient::Initialize, IAudioSessionControl2; numbers and order
 -- are this project's own).
 use Rattle.std.specs.Prelude.{ℕ, ◌+◌, ◌==◌, ◌&&◌, List, [], ◌∷◌, ◌++◌, map, filter, Bool, false}
-use Rattle.std.specs.Prelude.{Option, Some, None, if◌then◌else◌}
+use Rattle.std.specs.Prelude.{Option, Some, None}
 use Rattle.std.specs.Int.{w64, to_le_bytes}
 use Rattle.std.specs.List.{find}
 use Rattle.std.specs.Option.{option_map_or}
 use Rattle.ca_base.specs.declared.limits.TheConstants.{MAX_LEVEL}
+use Rattle.ca_base.specs.Numbered.{changed_numbered}
 use Rattle.session_manager.specs.declared.session.Kept.{Kept}
 use Rattle.session_manager.specs.declared.session.Session.{Session}
 use Rattle.session_manager.specs.declared.session.SessionKey.{SessionKey}
@@ -31,6 +32,10 @@ session_named endpoint process guid list = find (is_named endpoint process guid)
 abbrev pub session_for : SessionKey → List Session → Option Session
 session_for key list = session_named key.endpoint.0 key.process key.guid.0 list
 
+-- the number of a session
+abbrev pub number_of : Session → ℕ
+number_of s = s.no.0
+
 -- the session of a number, if it is there
 abbrev pub is_session : ℕ → Session → Bool
 is_session number s = s.no.0 == number
@@ -40,7 +45,7 @@ session_at number list = find (is_session number) list
 
 -- the sessions after a change of the one of this number, if it is there
 abbrev pub changed : ℕ → (Session → Session) → List Session → List Session
-changed number f list = map (λ s. if is_session number s then f s else s) list
+changed number f list = changed_numbered number_of number f list
 
 abbrev pub with_changed : ℕ → (Session → Session) → SessionList → SessionList
 with_changed number f book = record book { list = changed number f book.list }
@@ -54,7 +59,7 @@ first_level kept = option_map_or (λ k. k.level) kept MAX_LEVEL
 abbrev pub first_mute : Option Kept → Bool
 first_mute kept = option_map_or (λ k. k.mute) kept false
 
--- a session as it is made, for a stream of so many channels
+-- a session as it is made, for a stream of this many channels
 abbrev pub new_session : ℕ → SessionKey → Option Kept → Bool → ℕ → Session
 new_session number key kept persist channels = record {
   no = record { 0 = number };

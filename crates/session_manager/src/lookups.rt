@@ -1,4 +1,4 @@
-//! Where a session stands in the list.
+//! The place of a session in the list.
 
 ghost use Rattle.std.specs.Prelude.{◌≡◌};
 ghost use Rattle.std.specs.List.{position};

@@ -8,7 +8,7 @@ use ca_base::limits::SESSIONS;
 use ca_base::{Bytes, EndpointNo, Guid, Hr, SessionNo, Text};
 use std::test::Fail;
 
-/// GUIDs: none, and one with digits of all kinds, as its bytes stand in RFC 9562.
+/// GUIDs: none, and one with digits of all kinds, as RFC 9562 writes its bytes.
 const NULL: u128 = 0;
 
 const MIXED: u128 = 0xF81D4FAE_7DEC_11D0_A765_00A0C91E6BF6;

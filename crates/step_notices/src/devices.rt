@@ -1,6 +1,7 @@
 //! What is told of devices (IMMNotificationClient).
 
-ghost use Rattle.std.specs.Prelude.{◌≡◌, ◌+◌, ◌<◌, ◌≤◌, ◌++◌, length, vec_capacity};
+ghost use Rattle.std.specs.Prelude.{◌≡◌, ◌+◌, ◌<◌, ◌≤◌, length, vec_capacity};
+ghost use Rattle.step_notices.specs.Puts.{Puts};
 ghost use Rattle.step_notices.specs.Changes.{added_notices, default_notices, device_notices, removed_notices};
 ghost use Rattle.step_notices.specs.Changes.{had_another_state, is_another_default, state_notices};
 
@@ -13,9 +14,7 @@ use event_notices::kinds::{DEFAULT_CHANGED, DEVICE_ADDED, DEVICE_REMOVED, DEVICE
 /// Adds a notice for each endpoint that is noted after the step alone.
 fn put_added(before: &Noted, after: &Noted, out: &mut Vec<Notice>)
     requires { length out.old.items + ENDPOINTS ≤ vec_capacity out.old }
-    ensures items { out.new.items ≡ out.old.items ++ added_notices before.now after.now }
-    ensures few { length out.new.items ≤ length out.old.items + ENDPOINTS }
-    ensures room { vec_capacity out.new ≡ vec_capacity out.old }
+    ensures { Puts ENDPOINTS (added_notices before.now after.now) out.old out.new }
 {
     let endpoints = after.endpoints();
     'endpoints: for e in endpoints.iter() {
@@ -28,9 +27,7 @@ fn put_added(before: &Noted, after: &Noted, out: &mut Vec<Notice>)
 /// Adds a notice for each endpoint that is noted before the step alone.
 fn put_removed(before: &Noted, after: &Noted, out: &mut Vec<Notice>)
     requires { length out.old.items + ENDPOINTS ≤ vec_capacity out.old }
-    ensures items { out.new.items ≡ out.old.items ++ removed_notices before.now after.now }
-    ensures few { length out.new.items ≤ length out.old.items + ENDPOINTS }
-    ensures room { vec_capacity out.new ≡ vec_capacity out.old }
+    ensures { Puts ENDPOINTS (removed_notices before.now after.now) out.old out.new }
 {
     let endpoints = before.endpoints();
     'endpoints: for e in endpoints.iter() {
@@ -53,9 +50,7 @@ fn had_another_state(before: &[NotedEndpoint], e: &NotedEndpoint) -> bool
 /// Adds a notice for each endpoint whose state is another one.
 fn put_states(before: &Noted, after: &Noted, out: &mut Vec<Notice>)
     requires { length out.old.items + ENDPOINTS ≤ vec_capacity out.old }
-    ensures items { out.new.items ≡ out.old.items ++ state_notices before.now after.now }
-    ensures few { length out.new.items ≤ length out.old.items + ENDPOINTS }
-    ensures room { vec_capacity out.new ≡ vec_capacity out.old }
+    ensures { Puts ENDPOINTS (state_notices before.now after.now) out.old out.new }
 {
     let endpoints = after.endpoints();
     'endpoints: for e in endpoints.iter() {
@@ -76,9 +71,7 @@ fn is_another_default(before: &Noted, after: &Noted, place: usize) -> bool
 /// Adds a notice for each place whose default is another one.
 fn put_defaults(before: &Noted, after: &Noted, out: &mut Vec<Notice>)
     requires { length out.old.items + DEFAULTS ≤ vec_capacity out.old }
-    ensures items { out.new.items ≡ out.old.items ++ default_notices before.now after.now }
-    ensures few { length out.new.items ≤ length out.old.items + DEFAULTS }
-    ensures room { vec_capacity out.new ≡ vec_capacity out.old }
+    ensures { Puts DEFAULTS (default_notices before.now after.now) out.old out.new }
 {
     'places: for place in 0..DEFAULTS {
         if is_another_default(before, after, place) {
@@ -91,9 +84,7 @@ fn put_defaults(before: &Noted, after: &Noted, out: &mut Vec<Notice>)
 /// Adds what a step tells of devices, to a list that has room for as much as it may be: it takes no memory.
 pub fn put_device_notices(before: &Noted, after: &Noted, out: &mut Vec<Notice>)
     requires { length out.old.items + DEVICE_NOTICES ≤ vec_capacity out.old }
-    ensures items { out.new.items ≡ out.old.items ++ device_notices before.now after.now }
-    ensures few { length out.new.items ≤ length out.old.items + DEVICE_NOTICES }
-    ensures room { vec_capacity out.new ≡ vec_capacity out.old }
+    ensures { Puts DEVICE_NOTICES (device_notices before.now after.now) out.old out.new }
 {
     put_added(before, after, out);
     put_removed(before, after, out);

@@ -1,6 +1,7 @@
 //! What is told of sessions whose streams closed (IAudioSessionEvents::OnSessionDisconnected).
 
-ghost use Rattle.std.specs.Prelude.{◌≡◌, ◌+◌, ◌≤◌, ◌++◌, length, vec_capacity};
+ghost use Rattle.std.specs.Prelude.{◌≡◌, ◌+◌, ◌≤◌, length, vec_capacity};
+ghost use Rattle.step_notices.specs.Puts.{Puts};
 ghost use Rattle.step_notices.specs.Changes.{disconnected_notices, first_reason, reason_number, was_open};
 
 use crate::lookups::{note, stream_in};
@@ -50,9 +51,7 @@ fn first_reason(before: &[NotedStream], after: &[NotedStream], session: SessionN
 /// Adds a notice for each session of which a stream closed.
 pub fn put_disconnected(before: &Noted, after: &Noted, out: &mut Vec<Notice>)
     requires { length out.old.items + SESSIONS ≤ vec_capacity out.old }
-    ensures items { out.new.items ≡ out.old.items ++ disconnected_notices before.now after.now }
-    ensures few { length out.new.items ≤ length out.old.items + SESSIONS }
-    ensures room { vec_capacity out.new ≡ vec_capacity out.old }
+    ensures { Puts SESSIONS (disconnected_notices before.now after.now) out.old out.new }
 {
     let sessions = before.sessions();
     'sessions: for s in sessions.iter() {

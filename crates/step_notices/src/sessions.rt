@@ -1,7 +1,8 @@
 //! What is told of sessions (IAudioSessionNotification, IAudioSessionEvents).
 
-ghost use Rattle.std.specs.Prelude.{◌≡◌, ◌+◌, ◌≤◌, ◌==◌, ◌&&◌, ◌++◌, length, vec_capacity};
+ghost use Rattle.std.specs.Prelude.{◌≡◌, ◌+◌, ◌≤◌, ◌==◌, ◌&&◌, length, vec_capacity};
 ghost use Rattle.std.specs.List.{list_any};
+ghost use Rattle.step_notices.specs.Puts.{Puts};
 ghost use Rattle.step_notices.specs.Changes.{created_notices, session_notices, session_state_notices, state_of};
 
 use crate::disconnects::put_disconnected;
@@ -16,9 +17,7 @@ use event_notices::kinds::{SESSION_CREATED, SESSION_STATE};
 /// Adds a notice for each session that is noted after the step alone.
 fn put_created(before: &Noted, after: &Noted, out: &mut Vec<Notice>)
     requires { length out.old.items + SESSIONS ≤ vec_capacity out.old }
-    ensures items { out.new.items ≡ out.old.items ++ created_notices before.now after.now }
-    ensures few { length out.new.items ≤ length out.old.items + SESSIONS }
-    ensures room { vec_capacity out.new ≡ vec_capacity out.old }
+    ensures { Puts SESSIONS (created_notices before.now after.now) out.old out.new }
 {
     let sessions = after.sessions();
     'sessions: for s in sessions.iter() {
@@ -60,9 +59,7 @@ fn state_of(session: SessionNo, streams: &[NotedStream]) -> u8
 /// Adds a notice for each session whose state is another one.
 fn put_session_states(before: &Noted, after: &Noted, out: &mut Vec<Notice>)
     requires { length out.old.items + SESSIONS ≤ vec_capacity out.old }
-    ensures items { out.new.items ≡ out.old.items ++ session_state_notices before.now after.now }
-    ensures few { length out.new.items ≤ length out.old.items + SESSIONS }
-    ensures room { vec_capacity out.new ≡ vec_capacity out.old }
+    ensures { Puts SESSIONS (session_state_notices before.now after.now) out.old out.new }
 {
     let sessions = before.sessions();
     'sessions: for s in sessions.iter() {
@@ -76,9 +73,7 @@ fn put_session_states(before: &Noted, after: &Noted, out: &mut Vec<Notice>)
 /// Adds what a step tells of sessions, to a list that has room for as much as it may be: it takes no memory.
 pub fn put_session_notices(before: &Noted, after: &Noted, out: &mut Vec<Notice>)
     requires { length out.old.items + SESSION_NOTICES ≤ vec_capacity out.old }
-    ensures items { out.new.items ≡ out.old.items ++ session_notices before.now after.now }
-    ensures few { length out.new.items ≤ length out.old.items + SESSION_NOTICES }
-    ensures room { vec_capacity out.new ≡ vec_capacity out.old }
+    ensures { Puts SESSION_NOTICES (session_notices before.now after.now) out.old out.new }
 {
     put_created(before, after, out);
     put_disconnected(before, after, out);

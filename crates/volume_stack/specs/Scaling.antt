@@ -1,10 +1,11 @@
 -- Samples times gains, their sums, and the range of a sample (this project's own, but for the range: WAVEFORMATEX,
 -- wBitsPerSample).
 use Rattle.std.specs.Prelude.{ℕ, ℤ, pos, negsuc, ◌+ℤ◌, ◌*ℤ◌, int_div, int_lt, List, [], ◌∷◌, if◌then◌else◌}
+use Rattle.ca_base.specs.declared.limits.TheConstants.{MAX_LEVEL}
 
 -- the gain that changes nothing; levels and gains are whole numbers from 0 to this
 abbrev pub unit_gain : ℕ
-unit_gain = 65536
+unit_gain = MAX_LEVEL
 
 -- a number times a gain, toward zero
 abbrev pub scaled : ℤ → ℕ → ℤ

@@ -31,7 +31,7 @@ fn product(g: &Gains) -> u128
     g.stream as u128 * g.session as u128 * g.master as u128 * g.duck as u128
 }
 
-/// The gain of a stream's channel, 0 to 65536: the product of its levels, rounded down once, or 0 where muted.
+/// The gain of a stream's channel, 0 to 65536: the product of its levels, rounded down once, or 0 if muted.
 #[tactic(auto, using(crate::proofs::Products::four_levels))]
 pub fn stream_gain(g: &Gains) -> u32
     requires { AreLevels g.now }

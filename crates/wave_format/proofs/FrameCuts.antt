@@ -25,7 +25,7 @@ frames_split (suc a) b channels bytes =
     ap (λ (fs : List (List ℤ)). frame_from (take (channels * 2) bytes) ∷ fs)
     (frames_split a b channels (drop (channels * 2) bytes)))
 
--- what stands behind the frames doesn't matter
+-- what is behind the frames doesn't matter
 pub frames_front : (count channels : ℕ) (bytes : List ℕ)
     → frames_from count channels (take (count * (channels * 2)) bytes) ≡ frames_from count channels bytes
 frames_front zero channels bytes = refl

@@ -10,10 +10,10 @@ pub one_written : (channels n k : ℕ) (items : List ℕ) (word : ℕ) (rest aft
     → frame_of channels word ≡ frame_from (take (channels * 2) rest) → after ≡ drop (channels * 2) rest
     → map (frame_of channels) items ++ frames_from (n - k) channels rest ≡ all
     → map (frame_of channels) (items ++ word ∷ []) ++ frames_from (n - (k + 1)) channels after ≡ all
-one_written channels n k items word rest after all lt is after-is so_far =
+one_written channels n k items word rest after all lt is after_is so_far =
     let count : n - k ≡ suc (n - (k + 1)) = omega arith in
     let split : frames_from (n - k) channels rest ≡ frame_of channels word ∷ frames_from (n - (k + 1)) channels after =
-    rw (count, is, after-is) refl in
+    rw (count, is, after_is) refl in
     let joined : map (frame_of channels) (items ++ word ∷ []) ++ frames_from (n - (k + 1)) channels after
     ≡ map (frame_of channels) items
     ++ (frame_of channels word ∷ frames_from (n - (k + 1)) channels after) =

@@ -9,9 +9,11 @@ returns-then-len-ne2 c = other_count c.args.words.now c.len.result c.len.ensures
 pub returns-then-eq : goal.returns-then-eq
 returns-then-eq c =
     c.names_folder.ensures ∙ ap is_folder c.as_bytes.ensures.value
-    ∙ same_command c.args.words.now c.in-Some-Some.command.now c.in-Some-Some.folder.now c.len.result c.len.ensures c.if-len-ne2.false c.in-Some-Some.ensures.word c.in-Some-Some.ensures'.word (sym c.eq.ensures ∙ c.if-eq.true)
+    ∙ same_command c.args.words.now c.in-Some-Some.command.now c.in-Some-Some.folder.now c.len.result c.len.ensures
+    c.if-len-ne2.false c.in-Some-Some.ensures.word c.in-Some-Some.ensures'.word (sym c.eq.ensures ∙ c.if-eq.true)
 
 pub returns-else-eq : goal.returns-else-eq
 returns-else-eq c =
     c.if-eq.false
-    ∙ other_command c.args.words.now c.in-Some-Some.command.now c.in-Some-Some.folder.now c.len.result c.len.ensures c.if-len-ne2.false c.in-Some-Some.ensures.word c.in-Some-Some.ensures'.word (sym c.eq.ensures ∙ c.if-eq.false)
+    ∙ other_command c.args.words.now c.in-Some-Some.command.now c.in-Some-Some.folder.now c.len.result c.len.ensures
+    c.if-len-ne2.false c.in-Some-Some.ensures.word c.in-Some-Some.ensures'.word (sym c.eq.ensures ∙ c.if-eq.false)

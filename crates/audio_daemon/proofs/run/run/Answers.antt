@@ -18,8 +18,8 @@ returns-in-Err-clause-ends g c =
     record {
       words_are = sym c.are_replay.ensures ∙ c.if-not-are_replay.false;
       ends =
-          subst (λ d. Ends (Replayed faults told) before (moment left written d) ends.NoMemory) (sym c.in-Err.ensures.err)
-          (nothing_began faults told c.headline.ensures left written c.args.devices);
+          subst (λ d. Ends (Replayed faults told) before (moment left written d) ends.NoMemory)
+          (sym c.in-Err.ensures.err) (nothing_began faults told c.headline.ensures left written c.args.devices);
     }
 
 pub returns-clause-ends : goal.returns-clause-ends

@@ -1,4 +1,4 @@
-use Rattle.ca_stage.proofs.Once as Lemmas
+use Rattle.ca_stage.proofs.EachPlaceOnce as Lemmas
 use Rattle.ca_stage.proofs.laws.nothing_ahead.Goals as goal
 
 pub returns : goal.returns

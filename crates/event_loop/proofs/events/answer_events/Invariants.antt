@@ -1,4 +1,5 @@
-use Rattle.std.proofs.Common.{◌≡◌, ◌+◌, ◌-◌, ◌*◌, ◌^◌, ◌≤◌, length}
+use Rattle.std.proofs.Common.{◌≡◌, ◌+◌, ◌-◌, ◌*◌, ◌≤◌, length}
+use Rattle.ca_base.specs.declared.limits.TheConstants.{LONGEST_INPUT}
 use Rattle.event_loop.specs.Ends.{moment}
 use Rattle.event_loop.proofs.Turns.{SoFar, HasReadRoom}
 use Rattle.event_loop.proofs.events.answer_events.Given as goal
@@ -11,11 +12,11 @@ invariant-events g l = record {
       (moment (g.S.Source.left l.input) (g.K.Sink.written l.output) l.desk) l.pending.list l.taken;
   source : g.S.Source.faults l.input ≡ g.S.Source.faults l.fn.input;
   sink : g.K.Sink.faults l.output ≡ g.K.Sink.faults l.fn.output;
-  within : l.taken ≤ 2 ^ 40;
+  within : l.taken ≤ LONGEST_INPUT;
   room : l.buffers ≡ l.fn.room;
   size : HasReadRoom l.taken l.pending.size;
 }
 
 -- a read takes more than it adds to the pending bytes, and an event takes some of these
 abbrev pub decreases-events : goal.decreases-events
-decreases-events g l = 2 * (2 ^ 40 - l.taken) + length l.pending.list
+decreases-events g l = 2 * (LONGEST_INPUT - l.taken) + length l.pending.list

@@ -11,9 +11,11 @@ pieces-preserved g c =
     let count = c.in_ok-done.field-0 in
     let before = g.K.Sink.written c.args.output.now in
     let after = g.K.Sink.written c.write.new.self in
-    let piece = subst (λ (t : List ℕ). Appends (g.K.Sink.written c.pieces.output) after (take count t)) c.split_at.ensures.back now.takes in
+    let piece = subst (λ (t : List ℕ). Appends (g.K.Sink.written c.pieces.output) after (take count t))
+    c.split_at.ensures.back now.takes in
     record {
       within = omega (arith, now.count);
-      wrote = subst (λ (t : List ℕ). Appends before after t) (sym (take-add c.pieces.done count c.args.bytes.now)) (Appends-trans _ _ _ _ _ so_far.wrote piece);
+      wrote = subst (λ (t : List ℕ). Appends before after t) (sym (take-add c.pieces.done count c.args.bytes.now))
+          (Appends-trans _ _ _ _ _ so_far.wrote piece);
       faults = now.cause ∙ so_far.faults;
     }

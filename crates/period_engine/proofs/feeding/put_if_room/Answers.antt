@@ -1,7 +1,7 @@
 use Rattle.std.proofs.Common.{[], ◌∷◌, subst, arith}
 use Rattle.ca_base.specs.declared.ids.Gate.TheVariants as gate
 use Rattle.buffer_ring.specs.declared.step.Deed.TheVariants as deed
-use Rattle.buffer_ring.specs.declared.step.Step.TheVariants as step
+use Rattle.buffer_ring.specs.declared.step.StoreStep.TheVariants as step
 use Rattle.period_engine.proofs.feeding.put_if_room.Goals as goal
 
 pub returns-clause-puts : goal.returns-clause-puts

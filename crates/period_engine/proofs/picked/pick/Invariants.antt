@@ -1,6 +1,6 @@
 use Rattle.std.proofs.Common.{ℕ, List}
 use Rattle.buffer_ring.specs.declared.step.EndState.{EndState}
-use Rattle.buffer_ring.specs.declared.step.Step.{Step}
+use Rattle.buffer_ring.specs.declared.step.StoreStep.{StoreStep}
 use Rattle.period_engine.specs.declared.entry.StreamEntry.{StreamEntry}
 use Rattle.period_engine.specs.Entries.{IsPicked}
 use Rattle.period_engine.specs.SubSteps.{Turned, picks_on}
@@ -8,8 +8,8 @@ use Rattle.period_engine.proofs.Passes.{Passed, Alone}
 use Rattle.period_engine.proofs.picked.pick.Given as goal
 
 -- one entry was picked
-abbrev pub Picks : {E : Type 0} → (E → List Step → E → Type 0) → (E → EndState) → ℕ → ℕ → StreamEntry E → StreamEntry E
-    → Type 0
+abbrev pub Picks : {E : Type 0} → (E → List StoreStep → E → Type 0) → (E → EndState) → ℕ → ℕ → StreamEntry E
+    → StreamEntry E → Type 0
 Picks moves state number p a b = Turned moves (picks_on number p) a b × IsPicked state number p b
 
 -- the entries so far were picked

@@ -1,12 +1,13 @@
-use Rattle.std.proofs.Common.{◌≡◌, ℕ, [], ◌∷◌, true, Option, Some, None, refl, sym, ap, ◌∙◌, if◌then◌else◌}
+use Rattle.std.proofs.Common.{◌≡◌, ℕ, [], ◌∷◌, false, true, Option, Some, None, refl, sym, ap, ◌∙◌, if◌then◌else◌}
 use Rattle.ca_base.specs.declared.ids.Gate.TheVariants as gate
 use Rattle.buffer_ring.specs.declared.step.Deed.TheVariants as deed
-use Rattle.buffer_ring.specs.declared.step.Step.TheVariants as step
+use Rattle.buffer_ring.specs.declared.step.StoreStep.TheVariants as step
 use Rattle.ca_stage.specs.Stage.{BufferData, Stream, no_data}
 use Rattle.ca_stage.specs.Moves.{closed, moved}
 use Rattle.period_engine.specs.declared.entry.StreamEntry.{StreamEntry}
 use Rattle.period_engine.specs.Entries.{stream_with}
 use Rattle.service_board.specs.Closing.{closes_within, is_entry_within, is_open_within, scope_of}
+use Rattle.service_board.proofs.Closable.{same_but_running}
 use Rattle.service_board.proofs.closing.close.Goals as goal
 
 -- whatever the data
@@ -25,21 +26,7 @@ returns-then-is_within-clause-turned g c =
     λ d. ap (λ w. if w then moved (closed reason) (stream_with d a) else stream_with d a)
     (within_any (scope_of c.args.scope) d a ∙ within) in
     record {
-      same = record {
-        client = refl;
-        endpoint = refl;
-        kind = refl;
-        exclusive = refl;
-        event = refl;
-        channels = refl;
-        rate = refl;
-        buffer = refl;
-        period = refl;
-        room = refl;
-        latency = refl;
-        session = refl;
-        gains = refl;
-      };
+      same = same_but_running a c.close.new.self (gate.Closed reason) false 0;
       steps = step.Acts c.close.result gate.Open (deed.Closes reason) ∷ [];
       made = c.close.ensures;
       packs = (tt, tt);

@@ -1,7 +1,7 @@
 use Rattle.std.proofs.Common.{ℕ, List, Option}
 use Rattle.ca_base.specs.declared.ids.Reason.{Reason}
 use Rattle.buffer_ring.specs.declared.step.EndState.{EndState}
-use Rattle.buffer_ring.specs.declared.step.Step.{Step}
+use Rattle.buffer_ring.specs.declared.step.StoreStep.{StoreStep}
 use Rattle.period_engine.specs.declared.entry.StreamEntry.{StreamEntry}
 use Rattle.period_engine.specs.Entries.{IsRested}
 use Rattle.period_engine.specs.SubSteps.{Turned}
@@ -10,8 +10,8 @@ use Rattle.service_board.specs.Closing.{closes_within, scope_of}
 use Rattle.service_board.proofs.closing.close_all.Given as goal
 
 -- one entry was closed, if it was open within the scope
-abbrev pub Closes : {E : Type 0} → (E → List Step → E → Type 0) → (E → EndState) → Reason → Option ℕ → StreamEntry E
-    → StreamEntry E → Type 0
+abbrev pub Closes : {E : Type 0} → (E → List StoreStep → E → Type 0) → (E → EndState) → Reason → Option ℕ →
+    StreamEntry E → StreamEntry E → Type 0
 Closes moves state reason scope a b = Turned moves (closes_within reason scope) a b × IsRested state b
 
 -- the entries so far were closed

@@ -2,7 +2,7 @@ use Rattle.std.proofs.Common.{filter, rules, ap, subst, ◌∙◌, arith}
 use Rattle.std.proofs.lemmas.Fn.{filter_same}
 use Rattle.std.specs.List.{AllZip}
 use Rattle.service_board.specs.Leaving.{Parts, is_of_live}
-use Rattle.service_board.proofs.Parting.{all_left, others_go, written_back}
+use Rattle.service_board.proofs.PartedEntries.{all_left, others_go, written_back}
 use Rattle.service_board.proofs.leaving.drop_streams.Goals as goal
 
 pub returns-clause-keeps : goal.returns-clause-keeps

@@ -1,6 +1,6 @@
 use Rattle.std.proofs.Common.{ℕ, rules, arith}
 use Rattle.period_engine.specs.declared.entry.StreamEntry.{StreamEntry}
-use Rattle.service_book.proofs.Halves.{parts, place_found, place_other, place_past, says_no, says_yes}
+use Rattle.service_book.proofs.SortedSearch.{parts, place_found, place_other, place_past, says_no, says_yes}
 use Rattle.service_board.specs.Lookups.{is_entry_of}
 use Rattle.service_board.proofs.search.entry_at.Goals as goal
 

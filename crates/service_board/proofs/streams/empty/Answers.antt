@@ -2,13 +2,14 @@ use Rattle.std.proofs.Common.{◌≡◌, ℕ, ◌+◌, ◌/◌, ◌*◌, ◌==�
 use Rattle.std.proofs.Common.{sym, ap, ap₂, ◌∙◌, eq-eqb, if◌then◌else◌}
 use Rattle.std.proofs.lemmas.Bool.{ne_eqb}
 use Rattle.buffer_ring.specs.declared.step.Deed.TheVariants as deed
-use Rattle.buffer_ring.specs.declared.step.Step.TheVariants as step
+use Rattle.buffer_ring.specs.declared.step.StoreStep.TheVariants as step
 use Rattle.ca_base.specs.declared.ids.Gate.TheVariants as gate
 use Rattle.ca_stage.specs.Stage.{is_render, no_data}
 use Rattle.period_engine.proofs.Turns.{same_but}
-use Rattle.service_board.proofs.Emptying.{emptied_is, packed_whole, start_told}
+use Rattle.service_board.proofs.EmptiedEntries.{emptied_is, packed_whole, start_told}
 use Rattle.service_board.proofs.streams.empty.Goals as goal
-use Rattle.service_board.proofs.streams.empty.Goals.{else-whole-eq0-via-then-whole-eq0+else-position_of-eq0, else-whole-eq0-via-else-whole-eq0}
+use Rattle.service_board.proofs.streams.empty.Goals.{else-whole-eq0-via-then-whole-eq0+else-position_of-eq0}
+use Rattle.service_board.proofs.streams.empty.Goals.{else-whole-eq0-via-else-whole-eq0}
 
 -- a test that fails, behind another, or ahead of it
 fails_behind : (a b : Bool) → b ≡ false → (a && b) ≡ false

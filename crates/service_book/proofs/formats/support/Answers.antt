@@ -3,7 +3,8 @@ use borrow.Author.Tests.{le-leb, lt-leb}
 use Rattle.std.proofs.lemmas.Bool.{and_right, ne_eqb}
 use Rattle.service_book.proofs.Supporting.{tells_fault, tells_format, tells_malformed}
 use Rattle.service_book.proofs.formats.support.Goals as goal
-use Rattle.service_book.proofs.formats.support.Goals.{else-format-mix-via-then-format-mix+else-format-mix-2, else-format-mix-via-else-format-mix}
+use Rattle.service_book.proofs.formats.support.Goals.{else-format-mix-via-then-format-mix+else-format-mix-2}
+use Rattle.service_book.proofs.formats.support.Goals.{else-format-mix-via-else-format-mix}
 
 pub returns-then-format-mix-2 : goal.returns-then-format-mix-2
 returns-then-format-mix-2 c =

@@ -1,7 +1,7 @@
 use Rattle.std.proofs.Common.{◌≡◌, ℕ, ◌==◌, ◌&&◌, List, false, get_or, ap, ap₂, rules, arith}
 use Rattle.ca_machine.specs.declared.state.Client.{Client}
 use Rattle.ca_machine.specs.State.{is_client_of}
-use Rattle.service_book.proofs.Halves.{parts, place_found, place_other, place_past, says_no, says_yes}
+use Rattle.service_book.proofs.SortedSearch.{parts, place_found, place_other, place_past, says_no, says_yes}
 use Rattle.service_book.proofs.search.client_at.Goals as goal
 use Rattle.service_book.proofs.search.client_at.Goals.{then-ne-via-then-ne, then-ne-via-else-ne+then-ne-2}
 
@@ -35,11 +35,12 @@ returns-then-ne c =
     (λ a r q k. search rules) in
     elim c.then-ne.branch [
       | then-ne-via-then-ne w ↦
-          place_other number 0 n xs at (is_client_of conn n) (another conn n) c.requires c.partition_point-at.ensures.bound
-          point _ c.if-at-clients.false (another_at conn n xs at _ (says_no _ w.if-ne.ensures))
+          place_other number 0 n xs at (is_client_of conn n) (another conn n) c.requires
+          c.partition_point-at.ensures.bound point _ c.if-at-clients.false
+          (another_at conn n xs at _ (says_no _ w.if-ne.ensures))
       | then-ne-via-else-ne+then-ne-2 w ↦
-          place_other number 0 n xs at (is_client_of conn n) (another conn n) c.requires c.partition_point-at.ensures.bound
-          point _ c.if-at-clients.false
+          place_other number 0 n xs at (is_client_of conn n) (another conn n) c.requires
+          c.partition_point-at.ensures.bound point _ c.if-at-clients.false
           (ap₂ (λ a b. a && b) (says_yes _ w.if-ne.ensures) (says_no _ w.if-ne-2.ensures))
     ]
 

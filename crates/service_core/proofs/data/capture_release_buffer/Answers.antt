@@ -1,12 +1,12 @@
-use Rattle.std.proofs.Common.{[], ◌∷◌, refl}
-use Rattle.std.specs.Vec.{with_item}
+use Rattle.std.proofs.Common.{[], ◌∷◌}
 use Rattle.std.proofs.lemmas.Result.{err_from_is_err_and}
 use Rattle.ca_stage.specs.Moves.{read, of_client}
 use Rattle.ca_machine.specs.Plan.{granted}
 use Rattle.ca_machine.specs.Data.{packets_read}
 use Rattle.client_state.specs.declared.check.DataCall.TheVariants as data_call
+use Rattle.service_core.proofs.EntrySets.{entry_set}
 use Rattle.service_core.proofs.DataSteps.{data_refused}
-use Rattle.service_core.proofs.DataBoards.{looked_order, looked_sides, read_goes, read_order, read_sides, refused_goes}
+use Rattle.service_core.proofs.DataBoards.{looked_core, read_core, read_goes, refused_goes}
 use Rattle.service_core.proofs.data.capture_release_buffer.Goals as goal
 
 pub returns-in_err-at-clause-goes : goal.returns-in_err-at-clause-goes
@@ -26,36 +26,20 @@ returns-in_err-release_packet-clause-goes g c tally =
     in
     rw (p.1, p.2) (refused_goes g.D.Devices.faults g.D.Devices.told g.F.FrameStore.kept g.F.EngineSide.state
     g.met.F.FrameStore.whole c.args.conn.0 c.args.client.0 c.args.board.now _ c.in_ok-at.at c.index_mut.result.now
-    c.release_packet.new.entry c.requires.order c.requires.sides c.in_ok-at.ensures.found c.index_mut.ensures.value
-    (record {
-      devices = refl;
-      book = refl;
-      seats = refl;
-      seat_room = refl;
-      draft_room = refl;
-      entries = refl;
-      room = refl;
-    })
+    c.release_packet.new.entry c.requires.core c.in_ok-at.ensures.found c.index_mut.ensures.value
+    (entry_set c.args.board.now c.in_ok-at.at c.release_packet.new.entry)
     c.in_err-release_packet.ensures.refused.same
     c.in_err-release_packet.ensures.refused
     (data_call.CaptureRelease c.args.frames)
     (λ st s. granted [] (of_client c.args.client.0 (read (packets_read c.args.frames)) ∷ []) st)
     c.in_err-release_packet.field-0.0 c.in_err-release_packet.ensures.row tally)
 
-pub returns-in_err-release_packet-clause-order : goal.returns-in_err-release_packet-clause-order
-returns-in_err-release_packet-clause-order g c =
-    looked_order g.D.Devices.faults g.D.Devices.told g.F.FrameStore.kept g.F.EngineSide.state g.met.F.FrameStore.whole
+pub returns-in_err-release_packet-clause-core : goal.returns-in_err-release_packet-clause-core
+returns-in_err-release_packet-clause-core g c =
+    looked_core g.D.Devices.faults g.D.Devices.told g.F.FrameStore.kept g.F.EngineSide.state g.met.F.FrameStore.whole
     c.args.conn.0 c.args.client.0 c.args.board.now _ c.in_ok-at.at c.index_mut.result.now c.release_packet.new.entry
-    c.requires.order c.requires.sides c.in_ok-at.ensures.found c.index_mut.ensures.value
-    (record {
-      devices = refl;
-      book = refl;
-      seats = refl;
-      seat_room = refl;
-      draft_room = refl;
-      entries = refl;
-      room = refl;
-    })
+    c.requires.core c.in_ok-at.ensures.found c.index_mut.ensures.value
+    (entry_set c.args.board.now c.in_ok-at.at c.release_packet.new.entry)
     c.in_err-release_packet.ensures.refused.same
     c.in_err-release_packet.ensures.refused
 
@@ -63,73 +47,16 @@ pub returns-clause-goes : goal.returns-clause-goes
 returns-clause-goes g c tally =
     read_goes g.D.Devices.faults g.D.Devices.told g.F.FrameStore.kept g.F.EngineSide.state g.met.F.FrameStore.whole
     c.args.conn.0 c.args.client.0 c.args.board.now _ c.in_ok-at.at c.index_mut.result.now c.release_packet.new.entry
-    c.requires.order c.requires.sides c.in_ok-at.ensures.found c.index_mut.ensures.value
-    (record {
-      devices = refl;
-      book = refl;
-      seats = refl;
-      seat_room = refl;
-      draft_room = refl;
-      entries = refl;
-      room = refl;
-    })
+    c.requires.core c.in_ok-at.ensures.found c.index_mut.ensures.value
+    (entry_set c.args.board.now c.in_ok-at.at c.release_packet.new.entry)
     c.in_ok-release_packet.ensures.read.same
     c.args.frames c.in_ok-release_packet.ensures.read c.in_ok-release_packet.ensures.row tally
 
-pub returns-clause-order : goal.returns-clause-order
-returns-clause-order g c =
-    read_order g.D.Devices.faults g.D.Devices.told g.F.FrameStore.kept g.F.EngineSide.state g.met.F.FrameStore.whole
+pub returns-clause-core : goal.returns-clause-core
+returns-clause-core g c =
+    read_core g.D.Devices.faults g.D.Devices.told g.F.FrameStore.kept g.F.EngineSide.state g.met.F.FrameStore.whole
     c.args.conn.0 c.args.client.0 c.args.board.now _ c.in_ok-at.at c.index_mut.result.now c.release_packet.new.entry
-    c.requires.order c.requires.sides c.in_ok-at.ensures.found c.index_mut.ensures.value
-    (record {
-      devices = refl;
-      book = refl;
-      seats = refl;
-      seat_room = refl;
-      draft_room = refl;
-      entries = refl;
-      room = refl;
-    })
+    c.requires.core c.in_ok-at.ensures.found c.index_mut.ensures.value
+    (entry_set c.args.board.now c.in_ok-at.at c.release_packet.new.entry)
     c.in_ok-release_packet.ensures.read.same
     c.args.frames c.in_ok-release_packet.ensures.read c.in_ok-release_packet.ensures.row
-
-pub returns-clause-sides : goal.returns-clause-sides
-returns-clause-sides g c =
-    read_sides g.D.Devices.faults g.D.Devices.told g.F.FrameStore.kept g.F.EngineSide.state g.met.F.FrameStore.whole
-    c.args.conn.0 c.args.client.0 c.args.board.now
-    (record (c.args.board.now) {
-      entries = with_item c.args.board.now.entries c.in_ok-at.at c.release_packet.new.entry;
-    })
-    c.in_ok-at.at c.index_mut.result.now c.release_packet.new.entry c.requires.order c.requires.sides
-    c.in_ok-at.ensures.found c.index_mut.ensures.value
-    (record {
-      devices = refl;
-      book = refl;
-      seats = refl;
-      seat_room = refl;
-      draft_room = refl;
-      entries = refl;
-      room = refl;
-    })
-    c.in_ok-release_packet.ensures.read.same
-    c.args.frames c.in_ok-release_packet.ensures.read c.in_ok-release_packet.ensures.row
-
-pub returns-in_err-release_packet-clause-sides : goal.returns-in_err-release_packet-clause-sides
-returns-in_err-release_packet-clause-sides g c =
-    looked_sides g.D.Devices.faults g.D.Devices.told g.F.FrameStore.kept g.F.EngineSide.state g.met.F.FrameStore.whole
-    c.args.conn.0 c.args.client.0 c.args.board.now
-    (record (c.args.board.now) {
-      entries = with_item c.args.board.now.entries c.in_ok-at.at c.release_packet.new.entry;
-    })
-    c.in_ok-at.at c.index_mut.result.now c.release_packet.new.entry c.requires.order c.requires.sides
-    c.in_ok-at.ensures.found c.index_mut.ensures.value
-    (record {
-      devices = refl;
-      book = refl;
-      seats = refl;
-      seat_room = refl;
-      draft_room = refl;
-      entries = refl;
-      room = refl;
-    })
-    c.in_err-release_packet.ensures.refused.same c.in_err-release_packet.ensures.refused

@@ -15,4 +15,5 @@ returns-in-Some-clause-found g c =
 
 pub returns-in-None-clause-refused : goal.returns-in-None-clause-refused
 returns-in-None-clause-refused g c =
-    without_entry c.args.board.now c.args.conn.0 c.args.client.0 c.in_ok-live_client.ensures.found.says c.in-None.ensures
+    without_entry c.args.board.now c.args.conn.0 c.args.client.0 c.in_ok-live_client.ensures.found.says
+    c.in-None.ensures

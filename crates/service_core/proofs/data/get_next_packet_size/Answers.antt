@@ -1,13 +1,13 @@
 use Rattle.std.proofs.lemmas.List.{get_or-set_same}
-use Rattle.std.proofs.Common.{◌==◌, ◌∙◌, ap, refl, if◌then◌else◌}
-use Rattle.std.specs.Vec.{with_item}
+use Rattle.std.proofs.Common.{◌==◌, ◌∙◌, ap, if◌then◌else◌}
 use Rattle.std.proofs.lemmas.Result.{err_from_is_err_and}
 use Rattle.std.specs.Int.{w32, to_le_bytes}
 use Rattle.ca_machine.specs.Plan.{answered}
 use Rattle.ca_machine.specs.Data.{next_packet_size}
 use Rattle.client_state.specs.declared.check.DataCall.TheVariants as data_call
+use Rattle.service_core.proofs.EntrySets.{entry_set}
 use Rattle.service_core.proofs.DataSteps.{data_refused}
-use Rattle.service_core.proofs.DataBoards.{looked_order, looked_sides, next_goes, refused_goes}
+use Rattle.service_core.proofs.DataBoards.{looked_core, next_goes, refused_goes}
 use Rattle.service_core.proofs.data.get_next_packet_size.Goals as goal
 
 pub returns-in_err-at-clause-goes : goal.returns-in_err-at-clause-goes
@@ -23,20 +23,20 @@ returns-in_err-words-clause-goes g c tally =
     let p = err_from_is_err_and c.from_residual-in_err-words.result c.from_residual-in_err-words.ensures.1 in
     rw (p.1, p.2) (refused_goes g.D.Devices.faults g.D.Devices.told g.F.FrameStore.kept g.F.EngineSide.state
     g.met.F.FrameStore.whole c.args.conn.0 c.args.client.0 c.args.board.now _ c.in_ok-at.at c.index_mut.result.now
-    c.check.new.entry c.requires.order c.requires.sides c.in_ok-at.ensures.found c.index_mut.ensures.value
-    (record { devices = refl; book = refl; seats = refl; seat_room = refl; draft_room = refl; entries = refl; room = refl })
+    c.check.new.entry c.requires.core c.in_ok-at.ensures.found c.index_mut.ensures.value
+    (entry_set c.args.board.now c.in_ok-at.at c.check.new.entry)
     c.in_err-words.ensures.looked.same
     c.in_err-words.ensures.looked
     data_call.NextSize
     (λ st s. answered st (to_le_bytes w32 (next_packet_size s)))
     c.in_err-words.field-0.0 c.in_err-words.ensures.row tally)
 
-pub returns-in_err-words-clause-order : goal.returns-in_err-words-clause-order
-returns-in_err-words-clause-order g c =
-    looked_order g.D.Devices.faults g.D.Devices.told g.F.FrameStore.kept g.F.EngineSide.state g.met.F.FrameStore.whole
+pub returns-in_err-words-clause-core : goal.returns-in_err-words-clause-core
+returns-in_err-words-clause-core g c =
+    looked_core g.D.Devices.faults g.D.Devices.told g.F.FrameStore.kept g.F.EngineSide.state g.met.F.FrameStore.whole
     c.args.conn.0 c.args.client.0 c.args.board.now _ c.in_ok-at.at c.index_mut.result.now c.check.new.entry
-    c.requires.order c.requires.sides c.in_ok-at.ensures.found c.index_mut.ensures.value
-    (record { devices = refl; book = refl; seats = refl; seat_room = refl; draft_room = refl; entries = refl; room = refl })
+    c.requires.core c.in_ok-at.ensures.found c.index_mut.ensures.value
+    (entry_set c.args.board.now c.in_ok-at.at c.check.new.entry)
     c.in_err-words.ensures.looked.same
     c.in_err-words.ensures.looked
 
@@ -49,28 +49,16 @@ returns-clause-goes g c tally =
     rw (c.next_frames.ensures, ap (λ e. if c.in_ok-words.words == 0 then 0 else e.store.side.period) entry) (
     next_goes g.D.Devices.faults g.D.Devices.told g.F.FrameStore.kept g.F.EngineSide.state g.met.F.FrameStore.whole
     c.args.conn.0 c.args.client.0 c.args.board.now _ c.in_ok-at.at c.index_mut.result.now c.check.new.entry
-    c.requires.order c.requires.sides c.in_ok-at.ensures.found c.index_mut.ensures.value
-    (record { devices = refl; book = refl; seats = refl; seat_room = refl; draft_room = refl; entries = refl; room = refl })
+    c.requires.core c.in_ok-at.ensures.found c.index_mut.ensures.value
+    (entry_set c.args.board.now c.in_ok-at.at c.check.new.entry)
     c.in_ok-words.ensures.looked.same
     c.in_ok-words.ensures.looked c.in_ok-words.words c.in_ok-words.ensures.count c.in_ok-words.ensures.row tally)
 
-pub returns-clause-order : goal.returns-clause-order
-returns-clause-order g c =
-    looked_order g.D.Devices.faults g.D.Devices.told g.F.FrameStore.kept g.F.EngineSide.state g.met.F.FrameStore.whole
+pub returns-clause-core : goal.returns-clause-core
+returns-clause-core g c =
+    looked_core g.D.Devices.faults g.D.Devices.told g.F.FrameStore.kept g.F.EngineSide.state g.met.F.FrameStore.whole
     c.args.conn.0 c.args.client.0 c.args.board.now _ c.in_ok-at.at c.index_mut.result.now c.check.new.entry
-    c.requires.order c.requires.sides c.in_ok-at.ensures.found c.index_mut.ensures.value
-    (record { devices = refl; book = refl; seats = refl; seat_room = refl; draft_room = refl; entries = refl; room = refl })
+    c.requires.core c.in_ok-at.ensures.found c.index_mut.ensures.value
+    (entry_set c.args.board.now c.in_ok-at.at c.check.new.entry)
     c.in_ok-words.ensures.looked.same
     c.in_ok-words.ensures.looked
-
-pub returns-clause-sides : goal.returns-clause-sides
-returns-clause-sides g c =
-    looked_sides g.D.Devices.faults g.D.Devices.told g.F.FrameStore.kept g.F.EngineSide.state g.met.F.FrameStore.whole
-    c.args.conn.0 c.args.client.0 c.args.board.now
-    (record (c.args.board.now) {
-      entries = with_item c.args.board.now.entries c.in_ok-at.at c.check.new.entry;
-    })
-    c.in_ok-at.at c.index_mut.result.now c.check.new.entry c.requires.order c.requires.sides
-    c.in_ok-at.ensures.found c.index_mut.ensures.value
-    (record { devices = refl; book = refl; seats = refl; seat_room = refl; draft_room = refl; entries = refl; room = refl })
-    c.in_ok-words.ensures.looked.same c.in_ok-words.ensures.looked

@@ -1,6 +1,6 @@
 use Rattle.std.proofs.Common.{◌≤◌, length, subst, sym}
 use Rattle.ca_base.specs.declared.limits.TheConstants.{CLIENTS}
-use Rattle.service_board.proofs.Fewer.{are_entries}
+use Rattle.service_board.proofs.EntryCounts.{are_entries}
 use Rattle.service_core.proofs.pending.pending.Goals as goal
 
 pub words_in_all-requires : goal.words_in_all-requires

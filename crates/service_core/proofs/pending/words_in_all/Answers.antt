@@ -15,11 +15,11 @@ loop-entry-preserved g c =
 
 pub returns-clause-count : goal.returns-clause-count
 returns-clause-count g c =
-    all_added g.F.FrameStore.kept (words_in g.F.FrameStore.kept c.args.streams) c.args.all.now c.loop-entry.all 0 c.loop-entry.sum
-    (all_passed c.loop-entry.invariant.adds c.loop-entry-test.false c.loop-entry.auto.all)
+    all_added g.F.FrameStore.kept (words_in g.F.FrameStore.kept c.args.streams) c.args.all.now c.loop-entry.all 0
+    c.loop-entry.sum (all_passed c.loop-entry.invariant.adds c.loop-entry-test.false c.loop-entry.auto.all)
     ∙ zero-add _
 
 pub returns-clause-looked : goal.returns-clause-looked
 returns-clause-looked g c =
-    all_looked g.F.FrameStore.kept (words_in g.F.FrameStore.kept c.args.streams) c.args.all.now c.loop-entry.all 0 c.loop-entry.sum
-    (all_passed c.loop-entry.invariant.adds c.loop-entry-test.false c.loop-entry.auto.all)
+    all_looked g.F.FrameStore.kept (words_in g.F.FrameStore.kept c.args.streams) c.args.all.now c.loop-entry.all 0
+    c.loop-entry.sum (all_passed c.loop-entry.invariant.adds c.loop-entry-test.false c.loop-entry.auto.all)

@@ -1,4 +1,4 @@
-use Rattle.service_core.proofs.Silent.{silence_released}
+use Rattle.service_core.proofs.SilentFrames.{silence_released}
 use Rattle.service_core.proofs.putting.put_released.Goals as goal
 
 pub returns-then-flags-eq-BUFFER_SILENT-clause-frames : goal.returns-then-flags-eq-BUFFER_SILENT-clause-frames

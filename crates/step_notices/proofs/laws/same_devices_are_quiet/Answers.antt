@@ -3,8 +3,8 @@ use Rattle.std.specs.Prelude.{slice_index}
 use Rattle.std.specs.List.{range_with_len}
 use Rattle.step_notices.specs.declared.records.TheConstants.{DEFAULTS}
 use Rattle.step_notices.specs.Changes.{endpoint_in, had_another_state}
-use Rattle.step_notices.proofs.Quiet.{each_is_found, each_is_there, none_in_another_state, none_pass, none_pass_ever}
-use Rattle.step_notices.proofs.Quiet.{same_number}
+use Rattle.step_notices.proofs.QuietNotes.{each_is_found, each_is_there, none_in_another_state, none_pass}
+use Rattle.step_notices.proofs.QuietNotes.{none_pass_ever, same_number}
 use Rattle.step_notices.proofs.laws.same_devices_are_quiet.Goals as goal
 
 pub returns : goal.returns

@@ -4,8 +4,8 @@ use Rattle.std.specs.List.{filter_map}
 use Rattle.std.specs.Option.{option_map}
 use Rattle.event_notices.specs.declared.kinds.TheConstants as kinds
 use Rattle.step_notices.specs.Changes.{first_reason, note, session_in, state_of}
-use Rattle.step_notices.proofs.Quiet.{each_is_found, each_is_there, none_closed, none_given, none_pass, none_pass_ever}
-use Rattle.step_notices.proofs.Quiet.{same_number}
+use Rattle.step_notices.proofs.QuietNotes.{each_is_found, each_is_there, none_closed, none_given, none_pass}
+use Rattle.step_notices.proofs.QuietNotes.{none_pass_ever, same_number}
 use Rattle.step_notices.proofs.laws.same_sessions_are_quiet.Goals as goal
 
 pub returns : goal.returns

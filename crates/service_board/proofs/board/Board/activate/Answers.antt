@@ -4,8 +4,8 @@ use Rattle.std.specs.Int.{w64, to_le_bytes}
 use Rattle.ca_base.specs.declared.codes.TheConstants.Hr as hr
 use Rattle.ca_machine.specs.Clients.{activate_plan, new_client}
 use Rattle.service_board.specs.Does.{AnyData}
-use Rattle.service_board.proofs.Doing.{refused_does}
-use Rattle.service_board.proofs.Granting.{book_does}
+use Rattle.service_board.proofs.PlainEvents.{refused_does}
+use Rattle.service_board.proofs.GrantedEvents.{book_does}
 use Rattle.service_board.proofs.Activating.{activate_grants, activated_order, client_owned, clients_free, full_levels}
 use Rattle.service_board.proofs.board.Board.activate.Goals as goal
 

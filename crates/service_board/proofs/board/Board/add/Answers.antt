@@ -8,7 +8,7 @@ use Rattle.period_engine.specs.Sounds.{IsBlockFor}
 use Rattle.service_board.specs.Does.{AnyData}
 use Rattle.service_board.proofs.AddDoes.{add_does, added_order, flow_is, free_to_add, no_memory, seat_made}
 use Rattle.service_board.proofs.AddRows.{free_rows, read_is}
-use Rattle.service_board.proofs.Doing.{refused_does}
+use Rattle.service_board.proofs.PlainEvents.{refused_does}
 use Rattle.service_board.proofs.DuePeriods.{seats_length}
 use Rattle.service_board.proofs.board.Board.add.Goals as goal
 

@@ -15,7 +15,8 @@ pub returns-clause-refused : goal.returns-clause-refused
 returns-clause-refused g c =
     let runs : c.args.self.now.book.is_shut ≡ false =
     elim c.if-self.branch [
-      | then-self+in_ok-connected w ↦ connected_runs c.args.self.now c.args.conn.0 c.args.client.0 w.in_ok-connected.ensures
+      | then-self+in_ok-connected w ↦
+          connected_runs c.args.self.now c.args.conn.0 c.args.client.0 w.in_ok-connected.ensures
       | else-self w ↦ w.if-self.false
     ] in
     control_refused c.args.self.now c.args.conn.0 c.args.client.0 runs c.live_client.result
@@ -25,7 +26,8 @@ pub returns-clause-found : goal.returns-clause-found
 returns-clause-found g c =
     let runs : c.args.self.now.book.is_shut ≡ false =
     elim c.if-self.branch [
-      | then-self+in_ok-connected w ↦ connected_runs c.args.self.now c.args.conn.0 c.args.client.0 w.in_ok-connected.ensures
+      | then-self+in_ok-connected w ↦
+          connected_runs c.args.self.now c.args.conn.0 c.args.client.0 w.in_ok-connected.ensures
       | else-self w ↦ w.if-self.false
     ] in
     control_found c.args.self.now c.args.conn.0 c.args.client.0 runs c.live_client.result c.live_client.ensures.found

@@ -10,7 +10,8 @@ pub returns-in-Remove-clause-does : goal.returns-in-Remove-clause-does
 returns-in-Remove-clause-does g c = rw c.in-Remove.is c.remove.ensures.does
 
 pub returns-in-SetFormat-clause-does : goal.returns-in-SetFormat-clause-does
-returns-in-SetFormat-clause-does g c = rw c.in-SetFormat.is (rw c.as_slice-in-SetFormat.ensures at c.set_format.ensures.does)
+returns-in-SetFormat-clause-does g c =
+    rw c.in-SetFormat.is (rw c.as_slice-in-SetFormat.ensures at c.set_format.ensures.does)
 
 pub returns-in-SetDefault-clause-does : goal.returns-in-SetDefault-clause-does
 returns-in-SetDefault-clause-does g c = rw c.in-SetDefault.is c.set_default.ensures.does

@@ -10,7 +10,8 @@ returns-in_err-connected g c =
     let p = err_from_is_err_and c.from_residual.result c.from_residual.ensures.1 in
     rw (p.1, p.2) (record {
       does = told_unconnected g.D.Devices.faults g.D.Devices.told g.E.EngineSide.moves g.met.E.EngineSide.none
-          c.args.self.now c.args.conn.0 (λ st. default_rows c.args.flow c.args.role (default_at c.args.flow c.args.role st))
+          c.args.self.now c.args.conn.0
+          (λ st. default_rows c.args.flow c.args.role (default_at c.args.flow c.args.role st))
           (λ st. number_told st (default_at c.args.flow c.args.role st)) c.in_err-connected.field-0.0
           c.in_err-connected.ensures;
     })

@@ -6,7 +6,7 @@ use Rattle.ca_base.specs.declared.codes.TheConstants.Hr as hr
 use Rattle.ca_machine.specs.SharedRows.{control_rows}
 use Rattle.ca_machine.specs.Streams.{endpoint_rows, get_device_period_plan}
 use Rattle.service_board.specs.Does.{AnyData}
-use Rattle.service_board.proofs.Doing.{refused_does}
+use Rattle.service_board.proofs.PlainEvents.{refused_does}
 use Rattle.service_board.proofs.EndpointCalls.{plain_tells}
 use Rattle.service_board.proofs.LookingUp.{says_front, says_later}
 use Rattle.service_board.proofs.board.Board.get_device_period.Goals as goal

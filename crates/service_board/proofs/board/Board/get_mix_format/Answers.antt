@@ -6,7 +6,7 @@ use Rattle.ca_machine.specs.SharedRows.{control_rows}
 use Rattle.ca_machine.specs.Streams.{endpoint_rows, format_payload, get_mix_format_plan}
 use Rattle.service_board.specs.Board.{state_of}
 use Rattle.service_board.specs.Does.{AnyData}
-use Rattle.service_board.proofs.Doing.{refused_does}
+use Rattle.service_board.proofs.PlainEvents.{refused_does}
 use Rattle.service_board.proofs.EndpointCalls.{endpoint_read, endpoint_there, plain_tells}
 use Rattle.service_board.proofs.LookingUp.{says_front, says_later}
 use Rattle.service_board.proofs.board.Board.get_mix_format.Goals as goal

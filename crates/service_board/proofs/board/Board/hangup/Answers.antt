@@ -1,4 +1,5 @@
-use Rattle.std.proofs.Common.{◌≡◌, ℕ, List, [], ◌-◌, ◌∙◌, None, filter, length, map, nat_eq, not, refl, slice_set, sym, ap, subst, arith}
+use Rattle.std.proofs.Common.{◌≡◌, ℕ, List, [], ◌-◌, ◌∙◌, None, filter, length, map, nat_eq, not, refl, slice_set, sym}
+use Rattle.std.proofs.Common.{ap, subst, arith}
 use Rattle.event_notices.specs.Notices.{Notices, no_notices}
 use Rattle.std.proofs.lemmas.List.{length-set, with_items_is}
 use Rattle.std.proofs.lemmas.List.Elements.{All-filter}
@@ -13,8 +14,8 @@ use Rattle.ca_machine.specs.Clients.{closes, hangup_plan, is_client_on}
 use Rattle.service_book.specs.InOrder.{IsOpen, IsOwned}
 use Rattle.service_board.specs.Does.{AnyData}
 use Rattle.service_board.specs.declared.board.Board.{Board}
-use Rattle.service_board.proofs.Doing.{refused_does}
-use Rattle.service_board.proofs.Granting.{granted_does}
+use Rattle.service_board.proofs.PlainEvents.{refused_does}
+use Rattle.service_board.proofs.GrantedEvents.{granted_does}
 use Rattle.service_board.proofs.LeavingState.{are_closed, leaving_made, leaving_packed, leaving_steps}
 use Rattle.service_board.proofs.LeavingState.{none_closed, state_left}
 use Rattle.service_board.proofs.LeavingOrder.{apart_left, order_left, owned_left}
@@ -78,9 +79,9 @@ returns-clause-does g c =
       passes = c.in_ok-known.ensures datas tally;
       asks = refl;
       output = refl;
-      result-is = refl;
-      payload-is = refl;
-      after-is =
+      result_is = refl;
+      payload_is = refl;
+      after_is =
           state_left moves old new book test forgets left rises datas tally
           (filter (λ x. not (is_connection c.args.conn.0 x)) old.book.connections.items)
           (slice_set old.book.notices.items (c.args.conn.0 - 1) no_notices) c.drop_connection.ensures.left told;

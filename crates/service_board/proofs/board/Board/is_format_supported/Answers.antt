@@ -5,7 +5,7 @@ use Rattle.ca_base.specs.declared.codes.TheConstants.Hr as hr
 use Rattle.ca_base.specs.declared.values.TheConstants.{SHARE_EXCLUSIVE}
 use Rattle.ca_machine.specs.Streams.{is_format_supported_plan, is_malformed}
 use Rattle.service_board.specs.Does.{AnyData}
-use Rattle.service_board.proofs.Doing.{refused_does}
+use Rattle.service_board.proofs.PlainEvents.{refused_does}
 use Rattle.service_board.proofs.FormatRows.{by_arguments, exclusive, tells_support, unconnected, unusable}
 use Rattle.service_board.proofs.board.Board.is_format_supported.Goals as goal
 
@@ -61,5 +61,6 @@ returns g c = record {
   does = tells_support g.D.Devices.faults g.D.Devices.told g.E.EngineSide.moves
       g.met.E.EngineSide.none c.args.self.now c.args.conn.0 c.args.client.0 c.args.share c.args.format.now
       c.in_ok-connected.ensures c.if-share-eq-SHARE_EXCLUSIVE.false c.if-share-gt-SHARE_EXCLUSIVE.false
-      c.in_ok-at.at c.in_ok-at.ensures.found c.endpoint.result.now c.endpoint.ensures c.support.result c.support.ensures;
+      c.in_ok-at.at c.in_ok-at.ensures.found c.endpoint.result.now c.endpoint.ensures c.support.result
+      c.support.ensures;
 }

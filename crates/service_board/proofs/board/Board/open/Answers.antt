@@ -3,8 +3,8 @@ use Rattle.std.proofs.lemmas.Result.{err_from_is_err_and}
 use Rattle.ca_base.specs.declared.codes.TheConstants.Hr as hr
 use Rattle.ca_machine.specs.Clients.{open_plan}
 use Rattle.service_board.specs.Does.{AnyData}
-use Rattle.service_board.proofs.Doing.{refused_does}
-use Rattle.service_board.proofs.Granting.{book_does}
+use Rattle.service_board.proofs.PlainEvents.{refused_does}
+use Rattle.service_board.proofs.GrantedEvents.{book_does}
 use Rattle.service_board.proofs.Connecting.{free_to_open, open_grants, open_order}
 use Rattle.service_board.proofs.board.Board.open.Goals as goal
 

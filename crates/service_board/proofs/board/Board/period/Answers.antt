@@ -3,7 +3,7 @@ use Rattle.std.proofs.lemmas.Result.{err_from_is_err_and}
 use Rattle.ca_machine.specs.Periods.{period_plan}
 use Rattle.reply_payload.specs.Answers.{code_of, payload_of}
 use Rattle.service_board.specs.Does.{AnyData}
-use Rattle.service_board.proofs.Doing.{refused_does}
+use Rattle.service_board.proofs.PlainEvents.{refused_does}
 use Rattle.service_board.proofs.PeriodNeeds.{endpoint_within}
 use Rattle.service_board.proofs.PeriodNotes.{same_notes}
 use Rattle.service_board.proofs.SameStreams.{same_does}

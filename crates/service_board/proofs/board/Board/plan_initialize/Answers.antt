@@ -6,15 +6,16 @@ use Rattle.session_manager.specs.Rows.{join_rows}
 use Rattle.ca_machine.specs.State.{is_connection}
 use Rattle.ca_machine.specs.Streams.{words_stored}
 use Rattle.service_book.proofs.Joining.{found_there}
-use Rattle.service_board.proofs.Planning.{at_arguments, at_control, at_endpoint, at_flow, at_format, at_later}
-use Rattle.service_board.proofs.Planning.{at_session, at_stream}
-use Rattle.service_board.proofs.Planning.{buffer_most, buffer_whole, connected_says, flow_says, format_says, no_entry}
-use Rattle.service_board.proofs.Planning.{number_read}
-use Rattle.service_board.proofs.Planning.{opening_refused, past_endpoint, past_five, past_flow, past_format}
-use Rattle.service_board.proofs.Planning.{past_later, past_session}
-use Rattle.service_board.proofs.Planning.{past_stream, period_some, read_endpoint, session_says, shut_says}
-use Rattle.service_board.proofs.Planning.{stream_refuses}
-use Rattle.service_board.proofs.Planning.{there_read, unconnected_says, within}
+use Rattle.service_board.proofs.OpeningRows.{at_arguments, at_control, at_endpoint, at_flow, at_format, at_later}
+use Rattle.service_board.proofs.OpeningRows.{at_session, at_stream}
+use Rattle.service_board.proofs.OpeningRows.{buffer_most, buffer_whole, connected_says, flow_says, format_says}
+use Rattle.service_board.proofs.OpeningRows.{no_entry}
+use Rattle.service_board.proofs.OpeningRows.{number_read}
+use Rattle.service_board.proofs.OpeningRows.{opening_refused, past_endpoint, past_five, past_flow, past_format}
+use Rattle.service_board.proofs.OpeningRows.{past_later, past_session}
+use Rattle.service_board.proofs.OpeningRows.{past_stream, period_some, read_endpoint, session_says, shut_says}
+use Rattle.service_board.proofs.OpeningRows.{stream_refuses}
+use Rattle.service_board.proofs.OpeningRows.{there_read, unconnected_says, within}
 use Rattle.service_board.proofs.board.Board.plan_initialize.Goals as goal
 
 pub returns-in_default-clause-refused : goal.returns-in_default-clause-refused

@@ -7,8 +7,8 @@ use Rattle.ca_machine.specs.State.{is_client_of}
 use Rattle.ca_machine.specs.Clients.{closes, release_plan}
 use Rattle.service_book.specs.InOrder.{IsOwned}
 use Rattle.service_board.specs.Does.{AnyData}
-use Rattle.service_board.proofs.Doing.{refused_does}
-use Rattle.service_board.proofs.Granting.{granted_does}
+use Rattle.service_board.proofs.PlainEvents.{refused_does}
+use Rattle.service_board.proofs.GrantedEvents.{granted_does}
 use Rattle.service_board.proofs.LeavingState.{are_closed, leaving_made, leaving_packed, leaving_steps}
 use Rattle.service_board.proofs.LeavingState.{none_closed, state_left}
 use Rattle.service_board.proofs.LeavingOrder.{order_left}
@@ -45,9 +45,9 @@ returns-clause-does g c =
       passes = c.in_ok-live_client.ensures.found.says datas tally;
       asks = refl;
       output = refl;
-      result-is = refl;
-      payload-is = refl;
-      after-is = state_left moves old new book test forgets left rises datas tally old.book.connections.items
+      result_is = refl;
+      payload_is = refl;
+      after_is = state_left moves old new book test forgets left rises datas tally old.book.connections.items
           old.book.notices.items refl refl;
     })
 

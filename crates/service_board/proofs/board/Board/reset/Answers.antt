@@ -10,9 +10,9 @@ use Rattle.ca_machine.specs.Streams.{is_at_start, reset_plan, reset_rows}
 use Rattle.period_engine.specs.Agreement.{Layout, layout_of}
 use Rattle.period_engine.specs.Entries.{stream_of, stream_with}
 use Rattle.service_board.specs.StreamCalls.{IsKnown, IsOfKind}
-use Rattle.service_board.proofs.StreamMoves.{layout_there, look_done, move_done, order_kept, same_read}
+use Rattle.service_board.proofs.StreamMoves.{layout_there, look_done, move_done, order_kept, same_read, sets_one}
 use Rattle.service_board.proofs.PeriodSizes.{few_period_at, some_period_at}
-use Rattle.service_board.proofs.Doing.{known_more}
+use Rattle.service_board.proofs.PlainEvents.{known_more}
 use Rattle.service_board.proofs.StreamRows.{opened_there, own_refused, stream_refused}
 use Rattle.service_board.proofs.board.Board.reset.Goals as goal
 
@@ -116,15 +116,7 @@ returns-then-not-empty-clause-does g c =
     (look_done g.D.Devices.faults g.D.Devices.told g.E.EngineSide.moves g.met.E.EngineSide.none c.args.self.now _
     c.args.conn.0 c.args.client.0 c.in_ok-at.at c.index_mut.result.now c.empty.new.entry there
     c.requires.order.order
-    (record {
-      devices = refl;
-      book = refl;
-      seats = refl;
-      seat_room = refl;
-      draft_room = refl;
-      entries = refl;
-      room = refl;
-    })
+    (sets_one c.args.self.now c.in_ok-at.at c.empty.new.entry)
     found.same.client found.steps found.made found.packs reset_rows
     (KnownHere (layout_of c.index_mut.result.now) c.args.has_lease)
     (λ st s. granted [] (of_client c.args.client.0 reset ∷ []) st) hr.S_FALSE
@@ -138,15 +130,7 @@ returns-then-not-empty-clause-order g c =
     c.in_ok-at.ensures.found c.index_mut.ensures.value in
     order_kept g.E.EngineSide.state c.args.self.now _ c.in_ok-at.at c.index_mut.result.now c.empty.new.entry there.here
     (λ k. there.opens)
-    (record {
-      devices = refl;
-      book = refl;
-      seats = refl;
-      seat_room = refl;
-      draft_room = refl;
-      entries = refl;
-      room = refl;
-    })
+    (sets_one c.args.self.now c.in_ok-at.at c.empty.new.entry)
     c.empty.ensures.empties.same c.empty.ensures.rested c.empty.ensures.back (omega (arith, c.empty.ensures.ever))
     c.requires.order
 
@@ -173,15 +157,7 @@ returns-clause-does g c =
     (move_done g.D.Devices.faults g.D.Devices.told g.E.EngineSide.moves g.met.E.EngineSide.none c.args.self.now _
     c.args.conn.0 c.args.client.0 c.in_ok-at.at c.index_mut.result.now c.empty.new.entry there
     c.requires.order.order
-    (record {
-      devices = refl;
-      book = refl;
-      seats = refl;
-      seat_room = refl;
-      draft_room = refl;
-      entries = refl;
-      room = refl;
-    })
+    (sets_one c.args.self.now c.in_ok-at.at c.empty.new.entry)
     found.same.client found.steps found.made found.packs reset_rows
     (KnownHere (layout_of c.index_mut.result.now) c.args.has_lease)
     reset
@@ -195,14 +171,6 @@ returns-clause-order g c =
     c.in_ok-at.ensures.found c.index_mut.ensures.value in
     order_kept g.E.EngineSide.state c.args.self.now _ c.in_ok-at.at c.index_mut.result.now c.empty.new.entry there.here
     (λ k. there.opens)
-    (record {
-      devices = refl;
-      book = refl;
-      seats = refl;
-      seat_room = refl;
-      draft_room = refl;
-      entries = refl;
-      room = refl;
-    })
+    (sets_one c.args.self.now c.in_ok-at.at c.empty.new.entry)
     c.empty.ensures.empties.same c.empty.ensures.rested c.empty.ensures.back (omega (arith, c.empty.ensures.ever))
     c.requires.order

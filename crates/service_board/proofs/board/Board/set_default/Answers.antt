@@ -4,7 +4,7 @@ use Rattle.ca_base.specs.declared.codes.TheConstants.Hr as hr
 use Rattle.ca_machine.specs.Devices.{set_default_plan}
 use Rattle.service_board.specs.Does.{AnyData}
 use Rattle.service_board.proofs.ChoosingDefaults.{choice_does, choice_missing, wrong_choice}
-use Rattle.service_board.proofs.Doing.{refused_does}
+use Rattle.service_board.proofs.PlainEvents.{refused_does}
 use Rattle.service_board.proofs.NamedDoes.{named_read}
 use Rattle.service_board.proofs.board.Board.set_default.Goals as goal
 

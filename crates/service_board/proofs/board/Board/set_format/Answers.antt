@@ -3,7 +3,7 @@ use Rattle.std.proofs.lemmas.Option.{none-some}
 use Rattle.std.proofs.lemmas.Result.{err_from_is_err_and}
 use Rattle.ca_machine.specs.Devices.{set_format_plan}
 use Rattle.service_board.specs.Does.{AnyData}
-use Rattle.service_board.proofs.Doing.{refused_does}
+use Rattle.service_board.proofs.PlainEvents.{refused_does}
 use Rattle.service_board.proofs.DuePeriods.{seats_length}
 use Rattle.service_board.proofs.FormatDoes.{format_faulty, format_no_memory, format_unnamed}
 use Rattle.service_board.proofs.FormatMade.{made_does, made_order, made_passes, made_valid}

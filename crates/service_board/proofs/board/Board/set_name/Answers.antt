@@ -4,7 +4,7 @@ use Rattle.std.proofs.lemmas.Result.{err_from_is_err_and}
 use Rattle.ca_base.specs.declared.codes.TheConstants.Hr as hr
 use Rattle.ca_machine.specs.Devices.{set_name_plan, with_name}
 use Rattle.service_board.specs.Does.{AnyData}
-use Rattle.service_board.proofs.Doing.{refused_does}
+use Rattle.service_board.proofs.PlainEvents.{refused_does}
 use Rattle.service_board.proofs.NamedDoes.{named_read}
 use Rattle.service_board.proofs.NamingEndpoints.{is_replaced, name_does, name_missing, name_order, no_text}
 use Rattle.service_board.proofs.board.Board.set_name.Goals as goal

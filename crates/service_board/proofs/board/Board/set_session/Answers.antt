@@ -1,4 +1,5 @@
 use Rattle.std.proofs.lemmas.Result.{err_from_is_err_and}
+use Rattle.service_board.proofs.SettingLevels.{gains_stay, sessions_order}
 use Rattle.service_board.proofs.SettingSessions.{set_refused, set_unconnected, set_done}
 use Rattle.service_board.proofs.board.Board.set_session.Goals as goal
 
@@ -19,5 +20,11 @@ returns-in_err-set-clause-does g c =
 pub returns-clause-does : goal.returns-clause-does
 returns-clause-does g c =
     set_done g.D.Devices.faults g.D.Devices.told g.E.EngineSide.moves g.met.E.EngineSide.none
-    c.args.self.now c.args.conn.0 c.args.session.0 c.args.change.now c.set.new.self c.in_ok-connected.ensures
+    c.args.self.now c.args.conn.0 c.args.session.0 c.args.change.now c.set.new.self c.in_ok-connected.ensures _
     c.in_ok-set.ensures
+
+pub returns-clause-order : goal.returns-clause-order
+returns-clause-order g c =
+    rw c.changes_gains.ensures (sessions_order g.E.EngineSide.state c.args.self.now _ c.set.new.self
+    (gains_stay c.args.change.now c.args.session.0 c.set.new.self c.args.self.now.book c.in_ok-set.ensures)
+    c.requires.order)

@@ -2,7 +2,7 @@ use Rattle.std.proofs.Common.{None}
 use Rattle.std.proofs.lemmas.Result.{err_from_is_err_and}
 use Rattle.ca_machine.specs.Devices.{set_state_plan}
 use Rattle.service_board.specs.Does.{AnyData}
-use Rattle.service_board.proofs.Doing.{refused_does}
+use Rattle.service_board.proofs.PlainEvents.{refused_does}
 use Rattle.service_board.proofs.NamedDoes.{named_read, state_does, state_order, state_refused}
 use Rattle.service_board.proofs.NamedRows.{state_unnamed}
 use Rattle.service_board.proofs.board.Board.set_state.Goals as goal

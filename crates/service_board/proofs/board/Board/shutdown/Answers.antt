@@ -8,7 +8,7 @@ use Rattle.service_book.specs.BookState.{book_state}
 use Rattle.service_board.specs.Does.{AnyData}
 use Rattle.service_board.proofs.Disconnecting.{close_moves, disconnects_does, stage_before, stage_moved}
 use Rattle.service_board.proofs.DisconnectedOrder.{disconnected_order, other_book}
-use Rattle.service_board.proofs.Doing.{not_asked, refused_does}
+use Rattle.service_board.proofs.PlainEvents.{not_asked, refused_does}
 use Rattle.service_board.proofs.board.Board.shutdown.Goals as goal
 
 pub returns-in_err-runs-clause-does : goal.returns-in_err-runs-clause-does
@@ -35,7 +35,7 @@ returns-clause-does g c =
       result = refl;
       payload = refl;
       output = refl;
-      after-is =
+      after_is =
           ap (λ stage. book_state book stage
           (tally_after tally (stage_before moves state b c.requires.order true Shutdown None entries loses datas)
           (close_moves moves state b c.requires.order true Shutdown None entries loses datas)))

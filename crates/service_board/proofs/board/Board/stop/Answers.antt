@@ -1,11 +1,12 @@
-use Rattle.std.proofs.Common.{[], ◌∷◌, false, not, Some, None, refl, ap, ◌∙◌, if◌then◌else◌, le_refl}
+use Rattle.std.proofs.Common.{[], ◌∷◌, false, not, Some, None, refl, ap, ◌∙◌, if◌then◌else◌}
 use Rattle.std.proofs.lemmas.Result.{err_from_is_err_and}
 use Rattle.ca_base.specs.declared.codes.TheConstants.Hr as hr
 use Rattle.ca_stage.specs.Moves.{of_client, stopped}
 use Rattle.ca_machine.specs.Plan.{granted}
 use Rattle.ca_machine.specs.Streams.{stop_rows}
 use Rattle.service_board.specs.Does.{AnyData}
-use Rattle.service_board.proofs.StreamMoves.{move_done, order_kept, rested_at, rested_running, same_read, same_running, with_running}
+use Rattle.service_board.proofs.RunningStreams.{runs_does, runs_order}
+use Rattle.service_board.proofs.StreamMoves.{same_read}
 use Rattle.service_board.proofs.StreamRows.{opened_there, own_refused, stream_refused}
 use Rattle.service_board.proofs.board.Board.stop.Goals as goal
 
@@ -24,8 +25,7 @@ returns-then-not-index-clause-does g c =
     (λ st s. granted [] (of_client c.args.client.0 stopped ∷ []) st) AnyData c.in_ok-at.at c.index.result.now
     (opened_there c.args.conn.0 c.args.client.0 c.args.self.now c.in_ok-at.at c.index.result.now
     c.in_ok-at.ensures.found c.index.ensures)
-    hr.S_FALSE
-    (λ datas knows. ap (λ b. if not b then Some hr.S_FALSE else None) c.if-not-index.true)
+    hr.S_FALSE (λ datas knows. ap (λ b. if not b then Some hr.S_FALSE else None) c.if-not-index.true)
 
 pub returns-clause-does : goal.returns-clause-does
 returns-clause-does g c =
@@ -35,40 +35,16 @@ returns-clause-does g c =
     c.in_ok-at.ensures.found c.index_mut.ensures.value in
     let same = same_read c.args.conn.0 c.args.client.0 c.args.self.now c.in_ok-at.at c.index_mut.result.now
     c.index.result.now there read in
-    move_done g.D.Devices.faults g.D.Devices.told g.E.EngineSide.moves g.met.E.EngineSide.none c.args.self.now _
-    c.args.conn.0 c.args.client.0 c.in_ok-at.at c.index_mut.result.now (with_running false c.index_mut.result.now) there
-    c.requires.order.order
-    (record {
-      devices = refl;
-      book = refl;
-      seats = refl;
-      seat_room = refl;
-      draft_room = refl;
-      entries = refl;
-      room = refl;
-    })
-    refl [] (g.met.E.EngineSide.none c.index_mut.result.now.store) tt stop_rows (λ d. Unit {0}) stopped
-    (λ d agrees knows. ap (λ e. if not e.running then Some hr.S_FALSE else None) same
+    runs_does false c.args.self.now c.args.conn.0 c.args.client.0 c.in_ok-at.at c.index_mut.result.now there
+    g.E.EngineSide.state c.requires.order g.D.Devices.faults g.D.Devices.told g.E.EngineSide.moves
+    g.met.E.EngineSide.none stop_rows stopped
+    (λ d. ap (λ e. if not e.running then Some hr.S_FALSE else None) same
     ∙ ap (λ b. if not b then Some hr.S_FALSE else None) c.if-not-index.false)
-    (λ d agrees knows. refl)
+    (λ d. refl)
 
 pub returns-clause-order : goal.returns-clause-order
 returns-clause-order g c =
-    let there = opened_there c.args.conn.0 c.args.client.0 c.args.self.now c.in_ok-at.at c.index_mut.result.now
-    c.in_ok-at.ensures.found c.index_mut.ensures.value in
-    order_kept g.E.EngineSide.state c.args.self.now _ c.in_ok-at.at c.index_mut.result.now
-    (with_running false c.index_mut.result.now) there.here
-    (λ k. there.opens)
-    (record {
-      devices = refl;
-      book = refl;
-      seats = refl;
-      seat_room = refl;
-      draft_room = refl;
-      entries = refl;
-      room = refl;
-    })
-    (same_running false c.index_mut.result.now)
-    (rested_running g.E.EngineSide.state false c.index_mut.result.now
-    (rested_at g.E.EngineSide.state c.args.self.now c.in_ok-at.at c.index_mut.result.now there.here c.requires.order))
-    (le_refl c.index_mut.result.now.position) (le_refl c.index_mut.result.now.ever) c.requires.order
+    runs_order false c.args.self.now c.args.conn.0 c.args.client.0 c.in_ok-at.at c.index_mut.result.now
+    (opened_there c.args.conn.0 c.args.client.0 c.args.self.now c.in_ok-at.at c.index_mut.result.now
+    c.in_ok-at.ensures.found c.index_mut.ensures.value)
+    g.E.EngineSide.state c.requires.order

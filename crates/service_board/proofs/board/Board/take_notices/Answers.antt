@@ -2,7 +2,7 @@ use Rattle.std.proofs.Common.{None, arith}
 use Rattle.std.proofs.lemmas.Result.{err_from_is_err_and}
 use Rattle.ca_machine.specs.Registrations.{take_notices_plan}
 use Rattle.service_board.specs.Does.{AnyData}
-use Rattle.service_board.proofs.Doing.{refused_does}
+use Rattle.service_board.proofs.PlainEvents.{refused_does}
 use Rattle.service_board.proofs.KeptNotices.{queue_order}
 use Rattle.service_board.proofs.TakingNotices.{take_done}
 use Rattle.service_board.proofs.board.Board.take_notices.Goals as goal
@@ -16,9 +16,10 @@ returns-in_err-at-clause-does g c =
 
 pub returns-clause-does : goal.returns-clause-does
 returns-clause-does g c =
-    rw (c.put_notices.ensures.list, c.deref.ensures.value) (take_done g.D.Devices.faults g.D.Devices.told g.E.EngineSide.moves
-    g.met.E.EngineSide.none c.args.self.now c.args.conn.0 c.args.max c.in_ok-at.at c.index_mut.result.now
-    c.take-lost.new.self c.in_ok-at.ensures.found c.index_mut.ensures.value c.take-lost.new.out c.take-lost.result
+    rw (c.put_notices.ensures.list, c.deref.ensures.value) (take_done g.D.Devices.faults g.D.Devices.told
+    g.E.EngineSide.moves g.met.E.EngineSide.none c.args.self.now c.args.conn.0 c.args.max c.in_ok-at.at
+    c.index_mut.result.now c.take-lost.new.self
+    c.in_ok-at.ensures.found c.index_mut.ensures.value c.take-lost.new.out c.take-lost.result
     c.take-lost.ensures.lost c.take-lost.ensures.notices c.take-lost.ensures.after)
 
 pub returns-clause-order : goal.returns-clause-order

@@ -9,7 +9,8 @@ pub returns-clause-notices : goal.returns-clause-notices
 returns-clause-notices g c = λ datas tally.
     c.push_drafts.ensures.notices
     ∙ ap (λ ns. map (pushed_all ns) c.args.self.now.book.notices.items)
-    (c.put_step.ensures.items ∙ ap (step_notices c.args.self.now.failed c.args.ev.now) (c.noted-after.ensures datas tally))
+    (c.put_step.ensures.items
+    ∙ ap (step_notices c.args.self.now.failed c.args.ev.now) (c.noted-after.ensures datas tally))
 
 pub returns-clause-order : goal.returns-clause-order
 returns-clause-order g c =

@@ -4,7 +4,7 @@ use Rattle.ca_base.specs.declared.codes.TheConstants.Hr as hr
 use Rattle.ca_machine.specs.SharedRows.{shut_rows}
 use Rattle.ca_machine.specs.Step.{unlisted_device_plan}
 use Rattle.service_board.specs.Does.{AnyData}
-use Rattle.service_board.proofs.Doing.{refused_does}
+use Rattle.service_board.proofs.PlainEvents.{refused_does}
 use Rattle.service_board.proofs.LookingUp.{says_front, says_later}
 use Rattle.service_board.proofs.board.Board.unlisted_event.Goals as goal
 

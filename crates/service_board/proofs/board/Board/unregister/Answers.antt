@@ -16,7 +16,8 @@ returns-in_err-unregister-clause-does g c =
     c.from_residual-in_err-unregister.ensures.1 in
     rw (p.1, p.2) (unregister_refused g.D.Devices.faults g.D.Devices.told g.E.EngineSide.moves
     g.met.E.EngineSide.none c.args.self.now c.args.conn.0 c.in_ok-at.at c.index_mut.result.now c.unregister.new.self
-    c.in_ok-at.ensures.found c.index_mut.ensures.value c.args.number c.in_err-unregister.field-0.0 c.in_err-unregister.ensures)
+    c.in_ok-at.ensures.found c.index_mut.ensures.value c.args.number c.in_err-unregister.field-0.0
+    c.in_err-unregister.ensures)
 
 pub returns-in_err-unregister-clause-order : goal.returns-in_err-unregister-clause-order
 returns-in_err-unregister-clause-order g c =

@@ -1,4 +1,5 @@
-use Rattle.service_board.proofs.ValidEndpoints.{client_there, disconnected_says, finds_endpoint, inactive_says, no_client_says}
+use Rattle.service_board.proofs.ValidEndpoints.{client_there, disconnected_says, finds_endpoint, inactive_says}
+use Rattle.service_board.proofs.ValidEndpoints.{no_client_says}
 use Rattle.ca_machine.specs.State.{is_client_of}
 use Rattle.service_book.proofs.Finding.{found_at}
 use Rattle.service_board.proofs.board.Board.valid_endpoint.Goals as goal

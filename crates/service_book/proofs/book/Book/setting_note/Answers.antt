@@ -13,7 +13,8 @@ pub returns-in-SetMute : goal.returns-in-SetMute
 returns-in-SetMute c = λ stage tally.
     rw c.in-SetMute.is (
     c.volume_note-in-SetMute.ensures
-    ∙ ap (volume_change c.in-SetMute.session.0 c.in-SetMute.context c.args.was) (c.volume_of-in-SetMute.ensures stage tally)
+    ∙ ap (volume_change c.in-SetMute.session.0 c.in-SetMute.context c.args.was)
+    (c.volume_of-in-SetMute.ensures stage tally)
     )
 
 pub returns-in-SetGrouping : goal.returns-in-SetGrouping

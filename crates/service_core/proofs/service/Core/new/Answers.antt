@@ -1,6 +1,6 @@
 use Rattle.std.proofs.Common.{ap}
 use Rattle.service_core.specs.Service.{tally_of}
-use Rattle.service_core.proofs.Asked.{new_core, new_state}
+use Rattle.service_core.proofs.RunEntries.{new_core, new_state}
 use Rattle.service_core.proofs.service.Core.new.Goals as goal
 
 pub invariant_of-result : goal.invariant_of-result

@@ -11,8 +11,8 @@ returns g c =
     answers_viewed g.D.Devices.faults g.D.Devices.told g.F.FrameStore.kept
     (λ st. release_buffer_plan st c.args.conn.0 c.args.client.0 c.args.frames c.args.flags
     c.args.bytes.now)
-    (code_of c.release_buffer.result) (payload_of c.release_buffer.result) c.self.inside.board c.release_buffer.new.board
-    c.self.inside.tally c.self.inside.tally c.args.self.now c.self.view_is
+    (code_of c.release_buffer.result) (payload_of c.release_buffer.result) c.self.inside.board
+    c.release_buffer.new.board c.self.inside.tally c.self.inside.tally c.args.self.now c.self.view_is
     (goes_still g.D.Devices.faults g.D.Devices.told g.F.FrameStore.kept
     (λ st. release_buffer_plan st c.args.conn.0 c.args.client.0 c.args.frames c.args.flags
     c.args.bytes.now)

@@ -2,7 +2,7 @@ use Rattle.std.proofs.Common.{subst, ◌∙◌}
 use Rattle.ca_base.specs.declared.limits.TheConstants.{MAX_TALLY}
 use Rattle.ca_machine.specs.View.{MachineView}
 use Rattle.service_core.specs.Totals.{Reports}
-use Rattle.service_core.proofs.Waiting.{reports, saturated, still_core, still_view}
+use Rattle.service_core.proofs.WaitingFrames.{reports, saturated, still_core, still_view}
 use Rattle.service_core.proofs.service.Core.totals.Goals as goal
 
 pub invariant_of-self : goal.invariant_of-self

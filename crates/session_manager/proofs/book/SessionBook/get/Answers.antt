@@ -1,6 +1,6 @@
 use Rattle.std.proofs.Common.{sym}
+use Rattle.ca_base.proofs.FoundPlaces.{found_nowhere, found_there}
 use Rattle.session_manager.specs.Sessions.{is_session}
-use Rattle.session_manager.proofs.Finding.{found_nowhere, found_there}
 use Rattle.session_manager.proofs.book.SessionBook.get.Goals as goal
 
 pub returns-in-Some-clause-session : goal.returns-in-Some-clause-session

@@ -1,5 +1,6 @@
 use Rattle.std.proofs.Common.{◌≡◌, ◌+◌, ◌++◌, ◌∷◌, [], arith, refl, sym, ◌∙◌, subst, ap, Some, None}
-use Rattle.session_manager.specs.Book.{IsList}
+use Rattle.ca_base.proofs.Numbered.{each_there}
+use Rattle.session_manager.specs.Book.{IsList, IsSession}
 use Rattle.session_manager.specs.Sessions.{new_session, with_count}
 use Rattle.session_manager.proofs.Finding.{named_nowhere, named_there}
 use Rattle.session_manager.proofs.Joins.{
@@ -10,7 +11,7 @@ use Rattle.session_manager.proofs.Joins.{
   joined_new,
   number_of,
 }
-use Rattle.session_manager.proofs.Limits.{each_there, list_push, list_set}
+use Rattle.session_manager.proofs.Limits.{list_push, list_set}
 use Rattle.session_manager.proofs.book.SessionBook.join.Goals as goal
 
 pub invariant_of-self : goal.invariant_of-self
@@ -19,7 +20,8 @@ invariant_of-self c =
     let there = named_there key c.self.inside.sessions.items c.deref.result.now c.deref.ensures.value c.in-Some.at
     c.index_mut.result.now c.in-Some.ensures c.index_mut.ensures.value in
     let list = c.self.invariant.list in
-    let here = each_there c.in-Some.at c.self.inside.sessions.items c.index_mut.result.now list.each there.1 in
+    let here = each_there IsSession c.in-Some.at c.self.inside.sessions.items c.index_mut.result.now list.each
+    there.1 in
     record {
       list = list_set c.self.inside.sessions.items c.self.inside.made c.in-Some.at c.index_mut.result.now
           (with_count c.args.channels c.index_mut.result.now) list there.1 refl

@@ -1,11 +1,12 @@
 use Rattle.std.proofs.Common.{◌≡◌, sym, ◌∙◌, subst, ap, Some, false}
 use Rattle.std.proofs.lemmas.Option.{same_Some}
+use Rattle.ca_base.proofs.FoundPlaces.{found_nowhere, found_there}
+use Rattle.ca_base.proofs.Numbered.{each_there}
 use Rattle.session_manager.specs.Book.{IsSession}
 use Rattle.session_manager.specs.Changes.{is_wrong}
 use Rattle.session_manager.specs.Sessions.{is_session}
 use Rattle.session_manager.proofs.Calls.{not_there, set_there, wrong_there}
-use Rattle.session_manager.proofs.Finding.{found_nowhere, found_there}
-use Rattle.session_manager.proofs.Limits.{each_there, is_session_after, list_set, number_after}
+use Rattle.session_manager.proofs.Limits.{is_session_after, list_set, number_after}
 use Rattle.session_manager.proofs.book.SessionBook.set.Goals as goal
 
 pub returns-in_default : goal.returns-in_default
@@ -35,11 +36,12 @@ invariant_of-self c =
     let there = found_there (is_session c.args.s.0) c.self.inside.sessions.items c.deref.result.now c.in-Some.at
     c.index_mut.result.now c.deref.ensures.value c.in-Some.ensures c.index_mut.ensures.value in
     let list = c.self.invariant.list in
-    let here = each_there c.in-Some.at c.self.inside.sessions.items c.index_mut.result.now list.each there.1 in
+    let here = each_there IsSession c.in-Some.at c.self.inside.sessions.items c.index_mut.result.now list.each
+    there.1 in
     record {
       list = list_set c.self.inside.sessions.items c.self.inside.made c.in-Some.at c.index_mut.result.now c.apply.new.s
           list there.1
-          (ap (λ s. s.no) c.apply.ensures ∙ number_after c.args.by.now c.index_mut.result.now)
+          (ap (λ s. s.no.0) c.apply.ensures ∙ number_after c.args.by.now c.index_mut.result.now)
           (subst IsSession (sym c.apply.ensures)
           (is_session_after c.args.by.now c.index_mut.result.now here (right c)));
       room = c.self.invariant.room;

@@ -16,15 +16,15 @@ use Rattle.ca_stage.specs.Order.{RisesFrom, IsHeld, IsStage, Rests}
 use Rattle.ca_stage.specs.Laws.{PlacesRise}
 use Rattle.ca_stage.proofs.Lists.{chosen, all_found}
 use Rattle.ca_stage.proofs.Streams.{after_endpoint, moved_there, came, Comes, absent, present, is_of}
-use Rattle.ca_stage.proofs.Holds.{empty_is_stage}
+use Rattle.ca_stage.proofs.StageHolds.{empty_is_stage}
 use Rattle.ca_stage.proofs.Playheads.{next_after, playhead_stays}
 use Rattle.ca_stage.proofs.Phases.{MayBePicked, idle}
 use Rattle.ca_stage.proofs.SubSteps.{in_air, plays_there, SubStep, picks_one, sounds_whole, sounds_failed, retires_one}
 use Rattle.ca_stage.proofs.SubSteps.{feeds_one, closes_one, finishes_whole, finishes_failed}
-use Rattle.ca_stage.proofs.Walk.{Carries, walk}
+use Rattle.ca_stage.proofs.WovenMoves.{Carries, walk}
 use Rattle.ca_stage.proofs.Flights.{is_retire_move}
 use Rattle.ca_stage.proofs.Landings.{begins_grounded, outside_no_retire as move_no_retire}
-use Rattle.ca_stage.proofs.Begun.{extra, begun, SoundStep, still, mixes, outside_step, data_step, sub_sounds}
+use Rattle.ca_stage.proofs.WholeSounds.{extra, begun, SoundStep, still, mixes, outside_step, data_step, sub_sounds}
 
 -- lists that rise
 rises_lower : (low low' : ℕ) (ps : List ℕ) → low ≤ low' → RisesFrom low' ps → RisesFrom low ps

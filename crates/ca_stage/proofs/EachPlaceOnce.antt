@@ -13,14 +13,14 @@ use Rattle.ca_stage.specs.Laws.{covers, heard, heard_at, sound_of, sounds, rende
 use Rattle.ca_stage.specs.Laws.{NothingAhead, written_at, HasOneSound, OneSound}
 use Rattle.ca_stage.proofs.Lists.{all_of, flat_same}
 use Rattle.ca_stage.proofs.Clients.{rising_distinct}
-use Rattle.ca_stage.proofs.Holds.{stage_step, empty_is_stage}
+use Rattle.ca_stage.proofs.StageHolds.{stage_step, empty_is_stage}
 use Rattle.ca_stage.proofs.Mixing.{mixed_at}
 use Rattle.ca_stage.proofs.Phases.{idle}
-use Rattle.ca_stage.proofs.Walk.{Carries, walk}
+use Rattle.ca_stage.proofs.WovenMoves.{Carries, walk}
 use Rattle.ca_stage.proofs.Stages.{after_moves-append}
 use Rattle.ca_stage.proofs.Flights.{flying_from, flying, covers_in, summed_by, summed}
 use Rattle.ca_stage.proofs.Landings.{flown, begins_grounded}
-use Rattle.ca_stage.proofs.Begun.{extra, begun, SoundStep, still, mixes, outside_step, data_step, sub_sounds}
+use Rattle.ca_stage.proofs.WholeSounds.{extra, begun, SoundStep, still, mixes, outside_step, data_step, sub_sounds}
 use Rattle.ca_stage.proofs.Sums.{named, over_clients, heard_is}
 
 -- no whole Sound mixed the place

@@ -1,4 +1,5 @@
--- An event that was answered by the machine's step is an entry of the machine's run; a new service stands for the empty state.
+-- An event that was answered by the machine's step is an entry of the machine's run; a new service stands for the empty
+-- state.
 use Rattle.std.proofs.Common.{◌≡◌, ℕ, List, Option, ap, refl, subst, sym, ◌∙◌}
 use Rattle.std.specs.List.{All}
 use Rattle.std.proofs.lemmas.List.Elements.{All-nil}
@@ -31,14 +32,14 @@ asked faults told old new event reply head got = record {
     moves = (step old.state event got.given).moves;
     output = (step old.state event got.given).output;
   };
-  event-is = refl;
+  event_is = refl;
   steps = record {
     answers = got.answers;
-    result = got.result-is;
-    payload = got.payload-is;
+    result = got.result_is;
+    payload = got.payload_is;
     moves = refl;
     output = refl;
-    after = got.after-is;
+    after = got.after_is;
   };
   replies = record {
     kind = head.kind;

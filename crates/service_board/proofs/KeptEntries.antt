@@ -61,6 +61,21 @@ rises_lower low high (n ∷ ns) le h =
     let first = h.0 in
     (omega arith, h.1)
 
+-- what is found stays so, if those that are left are all of which the test says yes
+pub find_kept : {A : Type 0} (test p : A → Bool) → ((x : A) → test x ≡ true → p x ≡ true) → (xs : List A) →
+    find test (filter p xs) ≡ find test xs
+find_kept test p h [] = refl
+find_kept test p h (x ∷ xs) = by (p x) (h x) (find_kept test p h xs)
+  where
+    out : (own : Bool) → (own ≡ true → false ≡ true) → own ≡ false
+    out true own = absurd (false≢true (own refl))
+    out false own = refl
+
+    by : (stays : Bool) → (test x ≡ true → stays ≡ true) → find test (filter p xs) ≡ find test xs →
+        find test (cond stays (x ∷ filter p xs) (filter p xs)) ≡ find test (x ∷ xs)
+    by true own rest = ap (cond (test x) (Some x)) rest
+    by false own rest = rest ∙ sym (ap (λ v. cond v (Some x) (find test xs)) (out (test x) own))
+
 module _ {A : Type 0} (number : A → ℕ) where
   pub rises_kept : (p : A → Bool) (low : ℕ) (xs : List A) → RisesFrom low (map number xs) →
       RisesFrom low (map number (filter p xs))

@@ -3,7 +3,7 @@ use Rattle.std.proofs.Common.{◌≡◌, ℕ, List, [], Option, Some, None, refl
 use Rattle.device_io.specs.DeviceLog.{DeviceLog}
 use Rattle.ca_base.specs.declared.codes.Hr.{Hr}
 use Rattle.ca_base.specs.Rows.{first}
-use Rattle.buffer_ring.specs.declared.step.Step.{Step}
+use Rattle.buffer_ring.specs.declared.step.StoreStep.{StoreStep}
 use Rattle.ca_stage.specs.Stage.{BufferData}
 use Rattle.ca_stage.specs.Tally.{Tally}
 use Rattle.ca_machine.specs.State.{State}
@@ -15,16 +15,16 @@ use Rattle.service_book.specs.declared.book.Book.{Book}
 use Rattle.service_board.specs.Board.{state_of}
 use Rattle.service_board.specs.Does.{Does, Made, after_steps, layout_at, store_at}
 use Rattle.service_board.specs.declared.board.Board.{Board}
-use Rattle.service_board.proofs.Doing.{not_asked}
+use Rattle.service_board.proofs.PlainEvents.{not_asked}
 
 -- no row refuses an event that asks nothing and has nothing written, and this is what it gets
 pub record Grants (plan : Plan) (result : Hr) (payload : List ℕ) (after : State) : Type 0 where
   pub passes : first plan.rows ≡ None
   pub asks : plan.asks ≡ nothing
   pub output : (plan.grants []).output ≡ []
-  pub result-is : result ≡ (plan.grants []).result
-  pub payload-is : payload ≡ (plan.grants []).payload
-  pub after-is : after ≡ (plan.grants []).after
+  pub result_is : result ≡ (plan.grants []).result
+  pub payload_is : payload ≡ (plan.grants []).payload
+  pub after_is : after ≡ (plan.grants []).after
 
 pub answers_granted : (st : State) (plan : Plan) (result : Hr) (payload : List ℕ) (after : State) (out : Outside) →
     Grants plan result payload after → AnswersBy st plan result payload after out out
@@ -33,9 +33,9 @@ answers_granted st plan result payload after out h = record {
   answers =
       subst (λ v. AreAnswers (unless_row v plan.asks) []) (sym h.passes)
       (subst (λ a. AreAnswers a []) (sym h.asks) refl);
-  result-is = h.result-is ∙ ap (λ v. (unless_refused st v (plan.grants [])).result) (sym h.passes);
-  payload-is = h.payload-is ∙ ap (λ v. (unless_refused st v (plan.grants [])).payload) (sym h.passes);
-  after-is = h.after-is ∙ ap (λ v. (unless_refused st v (plan.grants [])).after) (sym h.passes);
+  result_is = h.result_is ∙ ap (λ v. (unless_refused st v (plan.grants [])).result) (sym h.passes);
+  payload_is = h.payload_is ∙ ap (λ v. (unless_refused st v (plan.grants [])).payload) (sym h.passes);
+  after_is = h.after_is ∙ ap (λ v. (unless_refused st v (plan.grants [])).after) (sym h.passes);
   passes =
       subst (λ v. Passes out (unless_refused st v (plan.grants [])).output [] out) (sym h.passes)
       (subst (λ ps. Passes out ps [] out) (sym h.output) (not_asked out));
@@ -43,8 +43,9 @@ answers_granted st plan result payload after out h = record {
 
 -- an event that moves stores by these steps
 pub granted_does : {D E : Type 0} (faults : D → ℕ) (told : D → Option (List DeviceLog))
-    (moves : E → List Step → E → Type 0) (given : Option E) (known : (ℕ → BufferData) → Type 0) (old new : Board D E)
-    (plan : State → Plan) (result : Hr) (payload : List ℕ) (steps : ℕ → List Step) (after : State → Tally) →
+    (moves : E → List StoreStep → E → Type 0) (given : Option E) (known : (ℕ → BufferData) → Type 0)
+    (old new : Board D E) (plan : State → Plan) (result : Hr) (payload : List ℕ) (steps : ℕ → List StoreStep)
+    (after : State → Tally) →
     ((client : ℕ) →
     Made moves given (steps client) (store_at client old.entries.items) (store_at client new.entries.items)) →
     ((client : ℕ) → ArePacked (layout_at client old.entries.items) (steps client)) →
@@ -71,7 +72,7 @@ granted_does faults told moves given known old new plan result payload steps aft
 
 -- an event that changes the book alone
 pub book_does : {D E : Type 0} (faults : D → ℕ) (told : D → Option (List DeviceLog))
-    (moves : E → List Step → E → Type 0) (given : Option E) (known : (ℕ → BufferData) → Type 0)
+    (moves : E → List StoreStep → E → Type 0) (given : Option E) (known : (ℕ → BufferData) → Type 0)
     (stays : (a : E) → moves a [] a) (b : Board D E) (book : Book) (plan : State → Plan) (result : Hr)
     (payload : List ℕ) →
     ((datas : ℕ → BufferData) (tally : Tally) →

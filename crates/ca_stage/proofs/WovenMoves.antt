@@ -14,7 +14,7 @@ use Rattle.ca_stage.specs.Order.{IsStage, Rests}
 use Rattle.ca_stage.proofs.Lists.{chosen}
 use Rattle.ca_stage.proofs.Streams.{all_step}
 use Rattle.ca_stage.proofs.Clients.{rising_distinct}
-use Rattle.ca_stage.proofs.Holds.{stage_step}
+use Rattle.ca_stage.proofs.StageHolds.{stage_step}
 use Rattle.ca_stage.proofs.Phases.{Phase, idle, picking, retiring, feeding, recording, closing, picks_left, hears_left}
 use Rattle.ca_stage.proofs.Phases.{retires_left, closes_left, phase_data, phase_begins}
 use Rattle.ca_stage.proofs.SubSteps.{SubStep, phase_next}
@@ -31,7 +31,7 @@ pub record Carries (F : Stage → List Move → List Move → Type 0) : Type 0 w
   pub begins : (st : Stage) (x : Move) (due xs : List Move) → IsPeriod st (x ∷ due) →
       F st (x ∷ due) (x ∷ xs) → F st [] (x ∷ xs)
 
--- outside a period nothing is picked
+-- between periods nothing is picked
 moved_outside : (m : StreamMove) (s : Stream) → is_period_move m ≡ false → Rests s → Rests (moved m s)
 moved_outside (picked n) s e z = absurd (true≢false e)
 moved_outside retired s e z = refl

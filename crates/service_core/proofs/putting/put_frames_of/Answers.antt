@@ -3,7 +3,7 @@ use Rattle.std.proofs.lemmas.List.{length-take}
 use Rattle.wave_format.specs.Frame.{frames_from}
 use Rattle.client_state.specs.Frames.{frames_in}
 use Rattle.service_core.proofs.PutFrames.{batch_goes_in, fills_on, puts_open}
-use Rattle.service_core.proofs.putting.put_blocks.Goals as goal
+use Rattle.service_core.proofs.putting.put_frames_of.Goals as goal
 
 pub loop-left-preserved : goal.loop-left-preserved
 loop-left-preserved g c =

@@ -4,7 +4,7 @@ use Rattle.std.specs.Option.{option_map}
 use Rattle.device_io.specs.DeviceLog.{DeviceLog, add_all}
 use Rattle.ca_base.specs.declared.codes.Hr.{Hr}
 use Rattle.ca_base.specs.Rows.{first}
-use Rattle.buffer_ring.specs.declared.step.Step.{Step}
+use Rattle.buffer_ring.specs.declared.step.StoreStep.{StoreStep}
 use Rattle.ca_stage.specs.Stage.{BufferData}
 use Rattle.ca_machine.specs.State.{State}
 use Rattle.ca_machine.specs.Plan.{Plan, unless_refused, unless_row, AreAnswers}
@@ -31,9 +31,9 @@ pub answers_refused : (st : State) (plan : Plan) (code : Hr) (out : Outside) →
 answers_refused st plan code out row = record {
   given = [];
   answers = subst (λ v. AreAnswers (unless_row v plan.asks) []) (sym row) refl;
-  result-is = ap (λ v. (unless_refused st v (plan.grants [])).result) (sym row);
-  payload-is = ap (λ v. (unless_refused st v (plan.grants [])).payload) (sym row);
-  after-is = ap (λ v. (unless_refused st v (plan.grants [])).after) (sym row);
+  result_is = ap (λ v. (unless_refused st v (plan.grants [])).result) (sym row);
+  payload_is = ap (λ v. (unless_refused st v (plan.grants [])).payload) (sym row);
+  after_is = ap (λ v. (unless_refused st v (plan.grants [])).after) (sym row);
   passes = subst (λ v. Passes out (unless_refused st v (plan.grants [])).output [] out) (sym row) (not_asked out);
 }
 
@@ -45,23 +45,23 @@ answers_plain st plan out row asks output = record {
   given = [];
   answers = subst (λ v. AreAnswers (unless_row v plan.asks) []) (sym row)
       (subst (λ a. AreAnswers a []) (sym asks) refl);
-  result-is = ap (λ v. (unless_refused st v (plan.grants [])).result) (sym row);
-  payload-is = ap (λ v. (unless_refused st v (plan.grants [])).payload) (sym row);
-  after-is = ap (λ v. (unless_refused st v (plan.grants [])).after) (sym row);
+  result_is = ap (λ v. (unless_refused st v (plan.grants [])).result) (sym row);
+  payload_is = ap (λ v. (unless_refused st v (plan.grants [])).payload) (sym row);
+  after_is = ap (λ v. (unless_refused st v (plan.grants [])).after) (sym row);
   passes =
       subst (λ v. Passes out (unless_refused st v (plan.grants [])).output [] out) (sym row)
       (subst (λ ps. Passes out ps [] out) (sym output) (not_asked out));
 }
 
 -- no store was moved
-pub made_still : {E : Type 0} (moves : E → List Step → E → Type 0) (given : Option E) (stays : (a : E) → moves a [] a)
-    (store : Option E) → Made moves given [] store store
+pub made_still : {E : Type 0} (moves : E → List StoreStep → E → Type 0) (given : Option E)
+    (stays : (a : E) → moves a [] a) (store : Option E) → Made moves given [] store store
 made_still moves given stays (Some a) = stays a
 made_still moves given stays None = refl
 
 -- a board that stays as it was does an event that a row refuses
 pub refused_does : {D E : Type 0} (faults : D → ℕ) (told : D → Option (List DeviceLog))
-    (moves : E → List Step → E → Type 0) (given : Option E) (known : (ℕ → BufferData) → Type 0)
+    (moves : E → List StoreStep → E → Type 0) (given : Option E) (known : (ℕ → BufferData) → Type 0)
     (stays : (a : E) → moves a [] a) (b : Board D E) (plan : State → Plan) (code : Hr) →
     Says b (λ st. (plan st).rows) (Some code) → Does faults told moves given known b b plan code []
 refused_does faults told moves given known stays b plan code says = record {
@@ -76,9 +76,9 @@ refused_does faults told moves given known stays b plan code says = record {
   };
 }
 
--- what an event does where less is known, it does where more is
+-- what an event does if less is known, it does if more is
 pub known_more : {D E : Type 0} (faults : D → ℕ) (told : D → Option (List DeviceLog))
-    (moves : E → List Step → E → Type 0) (given : Option E) (known more : (ℕ → BufferData) → Type 0)
+    (moves : E → List StoreStep → E → Type 0) (given : Option E) (known more : (ℕ → BufferData) → Type 0)
     (old new : Board D E) (plan : State → Plan) (result : Hr) (payload : List ℕ) →
     ((datas : ℕ → BufferData) → more datas → known datas) →
     Does faults told moves given known old new plan result payload →

@@ -7,7 +7,7 @@ use Rattle.std.proofs.lemmas.Nat.{div-mul-add}
 use Rattle.ca_base.specs.declared.ids.Gate.{Gate}
 use Rattle.ca_base.specs.declared.ids.Gate.TheVariants as gate
 use Rattle.buffer_ring.specs.declared.step.Deed.TheVariants as deed
-use Rattle.buffer_ring.specs.declared.step.Step.TheVariants as step
+use Rattle.buffer_ring.specs.declared.step.StoreStep.TheVariants as step
 use Rattle.ca_stage.specs.Stage.{BufferData, Frame, Packet, Stream, is_render}
 use Rattle.ca_stage.specs.Moves.{moved, reset}
 use Rattle.ca_machine.specs.Streams.{is_at_start}

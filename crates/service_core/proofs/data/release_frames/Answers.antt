@@ -4,7 +4,7 @@ use Rattle.std.proofs.lemmas.Result.{err_from_is_err_and}
 use Rattle.ca_base.specs.declared.limits.TheConstants.{MAX_COUNT}
 use Rattle.service_core.specs.Core.{seen_in}
 use Rattle.service_core.proofs.ReleaseRows.{entry_rows, release_passes}
-use Rattle.service_core.proofs.data.release.Goals as goal
+use Rattle.service_core.proofs.data.release_frames.Goals as goal
 
 pub returns-in_err-check-clause-row : goal.returns-in_err-check-clause-row
 returns-in_err-check-clause-row g c =

@@ -7,7 +7,8 @@ use Rattle.ca_base.specs.declared.ids.Gate.{Gate}
 use Rattle.ca_base.specs.declared.ids.Gate.TheVariants as gate
 use Rattle.step_notices.specs.declared.records.NotedEndpoint.{NotedEndpoint}
 use Rattle.step_notices.specs.declared.records.NotedStream.{NotedStream}
-use Rattle.step_notices.specs.Changes.{closed_for, endpoint_in, had_another_state, is_open, reasons, stream_in, was_open}
+use Rattle.step_notices.specs.Changes.{closed_for, endpoint_in, had_another_state, is_open, reasons, stream_in}
+use Rattle.step_notices.specs.Changes.{was_open}
 
 -- a number is not another than itself
 pub same_number : (n : ℕ) → not (n == n) ≡ false
@@ -51,7 +52,7 @@ module _ {X : Type 0} (key : X → ℕ) where
       behind x xs [] h = tt
       behind x xs (y ∷ ys) h = (by (key x == key y) x (found y xs) h.0, behind x xs ys h.1)
 
-  -- where numbers differ, each is what is found of its number
+  -- if numbers differ, each is what is found of its number
   pub each_is_found : (xs : List X) → IsDistinct nat_eq (map key xs) → AllByRecursion (λ x. found x xs ≡ Some x) xs
   unfolding IsDistinct
   each_is_found [] d = tt

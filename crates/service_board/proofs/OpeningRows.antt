@@ -28,7 +28,7 @@ use Rattle.ca_machine.specs.SharedRows.{connection_rows, control_rows, endpoint_
 use Rattle.ca_machine.specs.Streams.{endpoint_rows, has_loopback, has_no_match, initialize_rows, is_capturing}
 use Rattle.ca_machine.specs.Streams.{is_cross_process, is_faulty, is_malformed, joining_rows, later_rows, session_key}
 use Rattle.ca_machine.specs.Streams.{shared_buffer}
-use Rattle.buffer_ring.specs.declared.step.Step.{Step}
+use Rattle.buffer_ring.specs.declared.step.StoreStep.{StoreStep}
 use Rattle.service_book.specs.Openings.{argument_rows, arguments, flow_rows, format_rows, key_by, opening_plan}
 use Rattle.service_book.specs.declared.opening.Opening.{Opening as Asked}
 use Rattle.service_book.proofs.Finding.{found_at, none_at}
@@ -36,10 +36,10 @@ use Rattle.service_board.specs.Board.{state_of}
 use Rattle.service_board.specs.Does.{AnyData, Does}
 use Rattle.service_board.specs.Lookups.{FindsEndpoint, Says, is_entry_of}
 use Rattle.service_board.specs.declared.board.Board.{Board}
-use Rattle.service_board.proofs.Doing.{refused_does}
+use Rattle.service_board.proofs.PlainEvents.{refused_does}
 use Rattle.service_board.proofs.LookingUp.{no_stream, says_front, says_later, stream_there}
 
--- a test of a list that finds a member holds of one, and of none where it finds none
+-- a test of a list that finds a member holds of one, and of none if it finds none
 any_found : {X : Type 0} (test : X → Bool) (xs : List X) (x : X) → find test xs ≡ Some x → list_any test xs ≡ true
 any_found test [] x e = absurd (none-some x e)
 any_found test (y ∷ xs) x e = by (test y) e (any_found test xs x)
@@ -315,7 +315,7 @@ module _ {D E : Type 0} (b : Board D E) (x : Asked) where
 
 -- a refused one does nothing
 pub opening_refused : {D E : Type 0} (faults : D → ℕ) (told : D → Option (List DeviceLog))
-    (moves : E → List Step → E → Type 0) (stays : (a : E) → moves a [] a) (b : Board D E) (x : Asked) (code : Hr) →
+    (moves : E → List StoreStep → E → Type 0) (stays : (a : E) → moves a [] a) (b : Board D E) (x : Asked) (code : Hr) →
     Says b (all_rows x) (Some code) → Does faults told moves None AnyData b b (opening_plan x) code []
 opening_refused faults told moves stays b x code says =
     refused_does faults told moves None AnyData stays b (opening_plan x) code says

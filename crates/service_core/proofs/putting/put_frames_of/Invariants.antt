@@ -2,7 +2,7 @@ use Rattle.std.proofs.Common.{◌≡◌, ℕ, ◌*◌, ◌++◌, length}
 use Rattle.client_state.specs.Frames.{frames_in}
 use Rattle.wave_format.specs.Frame.{frames_from}
 use Rattle.service_core.proofs.PutFrames.{IsFilling}
-use Rattle.service_core.proofs.putting.put_blocks.Given as goal
+use Rattle.service_core.proofs.putting.put_frames_of.Given as goal
 
 -- the frames put so far and those of the bytes that are left are all
 abbrev pub invariant-loop-left : goal.invariant-loop-left

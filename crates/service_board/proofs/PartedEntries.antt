@@ -4,13 +4,13 @@ use Rattle.std.proofs.Common.{ℕ, ◌++◌, length, take, drop, arith}
 use Rattle.std.proofs.lemmas.List.{take-append-le, take_all}
 use Rattle.std.proofs.lemmas.List.Elements.{All-cons, All-nil}
 use Rattle.std.specs.List.{All, AllZip}
-use Rattle.buffer_ring.specs.declared.step.Step.{Step}
+use Rattle.buffer_ring.specs.declared.step.StoreStep.{StoreStep}
 use Rattle.ca_machine.specs.declared.state.Client.{Client}
 use Rattle.period_engine.specs.declared.entry.StreamEntry.{StreamEntry}
 use Rattle.service_book.specs.Leaving.{is_live}
 use Rattle.service_board.specs.Leaving.{Goes, Parts, is_of_live}
 
-module _ {E : Type 0} (moves : E → List Step → E → Type 0) (clients : List Client) where
+module _ {E : Type 0} (moves : E → List StoreStep → E → Type 0) (clients : List Client) where
   -- the entries that are left
   left_same : (a b : StreamEntry E) (xs ys : List (StreamEntry E)) → Parts moves clients a b →
       filter (is_of_live clients) ys ≡ filter (is_of_live clients) xs →
