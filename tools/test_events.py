@@ -107,6 +107,16 @@ period endpoint=1
         lines = "call conn=1 tag=1: NOT_INITIALIZED\nopen conn=2 tag=0: 0xDEADBEEF\n"
         self.assertEqual(self.ends(tool("show", "-", stdin=bytes.fromhex(frames)), 0, ""), lines)
 
+    def test_event_flags_are_told_ahead_of_notices(self):
+        payload = ("02000000" "0100000000000000" "4d00000000000000" "0200000000000000" "ffffffffffffffff"
+                   "0000000000000000" "00000000")
+        reply = bytes.fromhex("03" "01" "01000000" "00000000" + payload)
+        self.assertEqual(shown.reply_line(reply, "TakeNotices"),
+                         "S_OK events=[client=1 handle=77, client=2 handle=18446744073709551615] lost=0 notices=[]")
+        self.assertEqual(shown.reply_object(reply, "AwaitNotices"),
+                         {"reply": "AwaitNotices", "conn": 1, "tag": 1, "result": "S_OK", "lost": 0, "notices": [],
+                          "events": [{"client": 1, "handle": 77}, {"client": 2, "handle": 2 ** 64 - 1}]})
+
     def test_notices_have_names(self):
         payload = ("00000000" "0100000000000000" "02000000"
                    "03" "0100000000000000" + "00" * 16 + "0800000000000000" "0000"
@@ -155,6 +165,10 @@ period endpoint=1
 S_OK answers no fields
 example: releasebuffer client=$c1 frames=480 bytes=ramp
 """)
+        self.assertIn("example: seteventhandle client=$c1 handle=77\n",
+                      self.ends(tool("--help", "SetEventHandle"), 0, ""))
+        self.assertIn("  events       list of: client:u64 handle:u64\n",
+                      self.ends(tool("--help", "TakeNotices"), 0, ""))
         self.assertIn("GetDuckRule comes with a later version\n", self.ends(tool("--help", "getduckrule"), 0, ""))
         self.ends(tool("--help", "getbufer"), 2, "no event is called 'getbufer'; did you mean getbuffer?\n")
 

@@ -21,6 +21,14 @@ activate endpoint=1 role=console
 initialize client=$c1 shared duration=1s format=8000x1
 start client=$c1
 """
+# the same, driven by events
+DRIVEN = """add 1 render rate=8000 channels=1 name=Speakers
+open 1 pid=10 name=player
+activate endpoint=1 role=console
+initialize client=$c1 shared flags=eventcallback duration=1s format=8000x1
+seteventhandle client=$c1 handle=0x4d
+start client=$c1
+"""
 PLAYED = """getbuffer client=$c1 frames=4
 releasebuffer client=$c1 frames=4 bytes=e80318fc0300fdff
 period 1
@@ -71,6 +79,20 @@ class Replies(Scripts):
                    "expect S_OK lost=0 events=[] notices=[notice=simple_volume value=32768, "
                    "notice=device_state value=8, notice=default_changed subject=0, notice=default_changed subject=1, "
                    "notice=default_changed subject=2, notice=disconnected value=0, notice=session_state]\n")
+
+    def test_event_flags(self):
+        self.holds(DRIVEN + "takenotices max=0\nexpect S_OK events=[]\nperiod 1\ntakenotices max=0\n"
+                   "expect S_OK events=[handle=77]\ntakenotices max=0\nexpect S_OK events=[] lost=0 notices=[]\n")
+        self.fails(DRIVEN + "period 1\ntakenotices max=0\nexpect S_OK events=[client=1 handle=78]\n",
+                   "script:9: expected S_OK events=[client=1 handle=78], and came S_OK events=[client=1 handle=77]"
+                   " (to event 8)")
+
+    def test_exclusive_use(self):
+        self.holds(PLAYER + "register devices 0\ndeviceinfo 1\nexpect S_OK allow=1 priority=1\n"
+                   "setexclusive 1 0 1\nexpect S_OK\ndeviceinfo 1\nexpect S_OK allow=0 priority=1\n"
+                   "setexclusive 1 1 2\nexpect E_INVALIDARG\ntakenotices max=10\n"
+                   "expect S_OK notices=[notice=device_property subject=1 value=3]\n"
+                   "getcurrentpadding client=$c1\nexpect S_OK\n")
 
     def test_another_result(self):
         self.fails("start client=1\nexpect S_OK\n", "script:2: expected S_OK, and came E_HANDLE (to event 1)")

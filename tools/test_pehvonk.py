@@ -140,6 +140,21 @@ class Runs(unittest.TestCase):
         with self.assertRaises(pehvonk.CannotFail):
             events.run(PROGRAM, fail=(2, 1, 0))
 
+    def test_event_flags(self):
+        events = pehvonk.Events()
+        events.Add(endpoint=1, flow="render", format="8000x1", name="Speakers")
+        events.Open(conn=1, pid=10, name="player")
+        clients = [events.Activate(endpoint=1, role="console") for _ in range(2)]
+        for handle, client in enumerate(clients, 77):
+            events.Initialize(client=client, share="shared", flags="eventcallback", duration=0, format="8000x1")
+            events.SetEventHandle(client=client, handle=handle)
+            events.Start(client=client)
+        events.Period(endpoint=1)
+        first, second = events.TakeNotices(max=0), events.TakeNotices(max=0)
+        run = events.run(PROGRAM)
+        self.assertEqual(run.replies[first].events, [{"client": 1, "handle": 77}, {"client": 2, "handle": 78}])
+        self.assertEqual(run.replies[second].events, [])
+
     def test_a_program_whose_replies_differ(self):
         with tempfile.TemporaryDirectory() as folder:
             program = Path(folder, "program")

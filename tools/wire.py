@@ -128,9 +128,9 @@ EVENTS = [  # kind, code, event, fields, payload of S_OK
     (6, None, "Http", "request:message", "response:message"),
     (7, None, "Shutdown", "", "")]
 LATER = {  # of these events, those that the program doesn't answer yet but by E_NOTIMPL, or takes for malformed
-    "SetEventHandle", "SetDuckPreference", "GetDuckRule", "GetEndpointVolume", "SetEndpointMaster", "SetEndpointMute",
+    "SetDuckPreference", "GetDuckRule", "GetEndpointVolume", "SetEndpointMaster", "SetEndpointMute",
     "SetEndpointChannel", "Parts", "PartInfo", "GetPartLevel", "SetPartLevel", "GetPartMute", "SetPartMute",
-    "SetExclusive", "SetDuckRule", "Http"}
+    "SetDuckRule", "Http"}
 
 Field = namedtuple("Field", "name type optional")
 Shape = namedtuple("Shape", "name kind code fields")

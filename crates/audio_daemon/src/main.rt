@@ -16,6 +16,8 @@ mod capture_rows;
 #[cfg(test)]
 mod endpoint_rows;
 #[cfg(test)]
+mod event_rows;
+#[cfg(test)]
 mod exchanges;
 #[cfg(test)]
 mod heard_rows;

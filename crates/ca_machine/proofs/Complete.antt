@@ -41,13 +41,14 @@ use Rattle.ca_machine.specs.Sessions.{enum_sessions_plan, get_session_plan, sess
 use Rattle.ca_machine.specs.Sessions.{state_of_session, with_session}
 use Rattle.ca_machine.specs.Streams.{supported, format_payload, get_mix_format_plan}
 use Rattle.ca_machine.specs.Streams.{is_faulty, is_format_supported_plan, get_device_period_plan, is_malformed}
-use Rattle.ca_machine.specs.Streams.{start_rows, stop_rows, reset_rows, get_service_rows}
+use Rattle.ca_machine.specs.Streams.{start_rows, stop_rows, reset_rows, get_service_rows, set_event_handle_rows}
 use Rattle.ca_machine.specs.Data.{side_of, seen_of, data_rows, data_plan}
 use Rattle.device_registry.specs.Endpoints.{is_state}
 use Rattle.ca_machine.specs.Devices.{
   add_plan,
   remove_plan,
   set_default_plan,
+  set_exclusive_plan,
   set_format_plan,
   set_name_plan,
   set_state_plan,
@@ -298,9 +299,12 @@ call_complete st conn (call.IsFormatSupported c share format) =
     is_format_supported_complete st conn c.0 share format.list
 call_complete st conn (call.GetMixFormat c) = get_mix_format_complete st conn c.0
 call_complete st conn (call.GetDevicePeriod c) = plain_complete st (get_device_period_plan st conn c.0) (λ n. inl refl)
-call_complete st conn (call.Start c) = stream_complete st conn c.0 start_rows _ (λ s. inl refl)
+call_complete st conn (call.Start c) =
+    stream_complete st conn c.0 (start_rows (client_of conn c.0 st)) _ (λ s. inl refl)
 call_complete st conn (call.Stop c) = stream_complete st conn c.0 stop_rows _ (λ s. inl refl)
 call_complete st conn (call.Reset c) = stream_complete st conn c.0 reset_rows _ (λ s. inl refl)
+call_complete st conn (call.SetEventHandle c handle) =
+    stream_complete st conn c.0 (set_event_handle_rows handle) _ (λ s. inl refl)
 call_complete st conn (call.GetService c service) =
     stream_complete st conn c.0 (get_service_rows service) _ (λ s. inl refl)
 call_complete st conn (call.GetPosition c) = stream_complete st conn c.0 no_rows _ (λ s. inl refl)
@@ -336,6 +340,8 @@ device_complete st (device.Remove e) = plain_complete st (remove_plan st e.0) (�
 device_complete st (device.SetFormat e format) = set_format_complete st e.0 format.list
 device_complete st (device.SetDefault flow role e) =
     plain_complete st (set_default_plan st flow role e.0) (λ n. inl refl)
+device_complete st (device.SetExclusive e allow priority) =
+    plain_complete st (set_exclusive_plan st e.0 allow priority) (λ n. inl refl)
 device_complete st (device.SetName e name) = plain_complete st (set_name_plan st e.0 name) (λ n. inl refl)
 device_complete st (device.Other code rest) =
     plain_complete st (unlisted_device_plan st) (λ n. absurd (row_holds (shut_rows st) true hr.E_NOTIMPL [] refl n))

@@ -24,10 +24,12 @@ use Rattle.ca_machine.specs.Devices.{
   new_endpoint,
   remove_plan,
   set_default_plan,
+  set_exclusive_plan,
   set_format_plan,
   set_name_plan,
   set_state_plan,
   shutdown_plan,
+  with_exclusive,
   with_format,
   with_name,
 }
@@ -106,6 +108,12 @@ module _ (laws : PresentLaws) (ms : List Move) (st : State) (h : IsInOrder ms st
         upholds_plan laws ms st h e given (set_name_plan st number name) n
         (λ r. upholds_changed _ n (in_order_changed ms st number (with_name name) (λ d. refl) h))
 
+    upholds_set_exclusive : (number allow priority : ℕ) → HandsNone e →
+        Upholds ms st e given (outcome_of st (set_exclusive_plan st number allow priority) given)
+    upholds_set_exclusive number allow priority n =
+        upholds_plan laws ms st h e given (set_exclusive_plan st number allow priority) n
+        (λ r. upholds_changed _ n (in_order_changed ms st number (with_exclusive allow priority) (λ d. refl) h))
+
     upholds_set_default : (flow role number : ℕ) → HandsNone e →
         Upholds ms st e given (outcome_of st (set_default_plan st flow role number) given)
     upholds_set_default flow role number n =
@@ -126,6 +134,7 @@ module _ (laws : PresentLaws) (ms : List Move) (st : State) (h : IsInOrder ms st
     upholds_device (device.Remove d) n = upholds_remove d.0 n
     upholds_device (device.SetFormat d format) n = upholds_set_format d.0 format.list n
     upholds_device (device.SetDefault flow role d) n = upholds_set_default flow role d.0 n
+    upholds_device (device.SetExclusive d allow priority) n = upholds_set_exclusive d.0 allow priority n
     upholds_device (device.SetName d name) n = upholds_set_name d.0 name n
     upholds_device (device.Other code rest) n =
         upholds_plan laws ms st h e given (unlisted_device_plan st) n

@@ -1,6 +1,6 @@
 -- Every event upholds the headline: a line for each call, by the lemma of its kind.
 use Rattle.std.proofs.Common.{◌≡◌, ℕ, option_map, List, [], ◌∷◌, true}
-use Rattle.std.proofs.Common.{Option, Some, None, refl, ap, ◌∙◌, subst, eqb-true}
+use Rattle.std.proofs.Common.{Option, Some, None, refl, ap, ◌∙◌, subst, eqb-true, false, if◌then◌else◌, slice_set}
 use Rattle.std.specs.Int.{w32, w64, to_le_bytes}
 use Rattle.ca_base.specs.declared.codes.TheConstants.Hr as hr
 use Rattle.ca_base.specs.declared.ids.Flow.{Flow}
@@ -46,6 +46,8 @@ use Rattle.ca_machine.specs.Streams.{
   new_stream,
   opened_in,
   reset_rows,
+  set_event_handle_plan,
+  set_event_handle_rows,
   session_key,
   set_stream_level_plan,
   set_stream_level_rows,
@@ -66,14 +68,14 @@ use Rattle.ca_machine.specs.Endpoints.{
   get_device_plan,
   number_told,
 }
-use Rattle.ca_machine.specs.Registrations.{register_plan, take_notices_plan, unregister_plan}
+use Rattle.ca_machine.specs.Registrations.{register_plan, take_notices_plan, unflagged, unregister_plan}
 use Rattle.ca_machine.specs.Periods.{mixing_of, period_by, period_of}
 use Rattle.ca_machine.specs.Step.{unlisted_call_plan, call_plan, plan, step, asks, tells}
 use Rattle.ca_machine.specs.Headline.{handed, handed_by}
 use Rattle.ca_machine.proofs.LiveClients.{found_is_live}
 use Rattle.ca_machine.proofs.PresentStage.{PresentLaws, stage_of}
 use Rattle.ca_machine.proofs.Playheads.{HasHead}
-use Rattle.ca_machine.proofs.StateInOrder.{IsInOrder, in_order_levels, in_order_made, in_order_moved}
+use Rattle.ca_machine.proofs.StateInOrder.{IsInOrder, in_order_clients, in_order_made, in_order_moved, keeps_if}
 use Rattle.ca_machine.proofs.FramesHanded.{HandsNone, none_by}
 use Rattle.ca_machine.proofs.Outcomes.{
   Upholds,
@@ -149,7 +151,9 @@ module _ (laws : PresentLaws) (ms : List Move) (st : State) (h : IsInOrder ms st
         Upholds ms st e given (outcome_of st (take_notices_plan st conn max) given)
     upholds_take conn max n =
         upholds_plan laws ms st h e given (take_notices_plan st conn max) n
-        (λ r. upholds_still laws ms st h e given hr.S_OK _ _ (none_by (stage_of ms) e hr.S_OK n) h)
+        (λ r. upholds_still laws ms st h e given hr.S_OK _ _ (none_by (stage_of ms) e hr.S_OK n)
+        (in_order_clients ms st (unflagged conn)
+        (λ c. keeps_if (is_client_on conn c) c (record c { flagged = false }) refl) h))
 
     -- ---- calls that tell of endpoints
 
@@ -210,7 +214,17 @@ module _ (laws : PresentLaws) (ms : List Move) (st : State) (h : IsInOrder ms st
     upholds_stream_level conn client channel level n =
         upholds_stream laws ms st h e given conn client (set_stream_level_rows channel level) _ n
         (λ s. upholds_still laws ms st h e given hr.S_OK [] _ (none_by (stage_of ms) e hr.S_OK n)
-        (in_order_levels ms st conn client channel level h))
+        (in_order_clients ms st
+        (λ c. if is_client_of conn client c then record c { levels = slice_set c.levels channel level } else c)
+        (λ c. keeps_if (is_client_of conn client c) c (record c { levels = slice_set c.levels channel level }) refl) h))
+
+    upholds_event_handle : (conn client handle : ℕ) → HandsNone e →
+        Upholds ms st e given (outcome_of st (set_event_handle_plan st conn client handle) given)
+    upholds_event_handle conn client handle n =
+        upholds_stream laws ms st h e given conn client (set_event_handle_rows handle) _ n
+        (λ s. upholds_still laws ms st h e given hr.S_OK [] _ (none_by (stage_of ms) e hr.S_OK n)
+        (in_order_clients ms st (λ c. if is_client_of conn client c then record c { handle = handle } else c)
+        (λ c. keeps_if (is_client_of conn client c) c (record c { handle = handle }) refl) h))
 
     -- ---- IsFormatSupported
 
@@ -302,7 +316,7 @@ module _ (laws : PresentLaws) (ms : List Move) (st : State) (h : IsInOrder ms st
         upholds_plan laws ms st h e given (get_device_period_plan st conn c.0) n
         (λ r. upholds_answered laws ms st h e given _ n)
     upholds_call conn (call.Start c) n =
-        upholds_stream laws ms st h e given conn c.0 start_rows _ n
+        upholds_stream laws ms st h e given conn c.0 (start_rows (client_of conn c.0 st)) _ n
         (λ s. upholds_move laws ms st h e given [] (of_client c.0 started) n refl refl refl tt)
     upholds_call conn (call.Stop c) n =
         upholds_stream laws ms st h e given conn c.0 stop_rows _ n
@@ -310,6 +324,7 @@ module _ (laws : PresentLaws) (ms : List Move) (st : State) (h : IsInOrder ms st
     upholds_call conn (call.Reset c) n =
         upholds_stream laws ms st h e given conn c.0 reset_rows _ n
         (λ s. upholds_move laws ms st h e given [] (of_client c.0 reset) n refl refl refl tt)
+    upholds_call conn (call.SetEventHandle c handle) n = upholds_event_handle conn c.0 handle n
     upholds_call conn (call.GetService c service) n =
         upholds_stream laws ms st h e given conn c.0 (get_service_rows service) _ n
         (λ s. upholds_answered laws ms st h e given [] n)

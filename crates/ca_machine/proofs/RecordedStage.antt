@@ -19,7 +19,7 @@ use Rattle.ca_stage.proofs.MapTallies.{amount_where, closed_adds, more_dropped}
 use Rattle.device_registry.specs.declared.endpoint.Endpoint.{Endpoint}
 use Rattle.ca_machine.specs.State.{State}
 use Rattle.ca_machine.specs.Plan.{Answer, bytes_given, is_whole}
-use Rattle.ca_machine.specs.Periods.{after_period, period_frames, recording, recording_moves}
+use Rattle.ca_machine.specs.Periods.{after_recording, period_frames, recording, recording_moves}
 
 -- the frames of its packet
 abbrev pub frames_of : Endpoint → List ℕ → List Frame
@@ -77,15 +77,16 @@ module _ (e : Endpoint) (bytes : List ℕ) (st : Stage) where
       kept_tally (closed Removal) padding (λ t. t.dropped) more_dropped (closed_adds Removal) (is_open_on e.no.0) st t
       r on_is_open l
 
--- the state after it: its stage has this map over the streams, and the tally is as it was
+-- the state after it: its stage has this map over the streams, the tally is as it was, and events are set
 abbrev pub state_recorded : State → Endpoint → List ℕ → State
 state_recorded st e bytes =
-    record st { stage = record (st.stage) { streams = map (fed_by e bytes) st.stage.streams } }
+    after_recording e bytes true
+    (record st { stage = record (st.stage) { streams = map (fed_by e bytes) st.stage.streams } })
 
 pub recorded_state : (st : State) (e : Endpoint) (given : List Answer) → RisesFrom 0 (clients st.stage) →
     is_whole given ≡ true → (recording st e given).after ≡ state_recorded st e (bytes_given given)
 recorded_state st e given r w =
-    ap (λ whole. after_period e.no.0 whole
+    ap (λ whole. after_recording e (bytes_given given) whole
     (Rattle.ca_machine.specs.Plan.moved (recording_moves e (bytes_given given) whole st.stage) st)) w
-    ∙ ap₂ (λ stage tally. record st { stage = stage; tally = tally })
+    ∙ ap₂ (λ stage tally. after_recording e (bytes_given given) true (record st { stage = stage; tally = tally }))
     (recorded_stage e (bytes_given given) st.stage r true) (tally_recorded e (bytes_given given) st.stage st.tally)

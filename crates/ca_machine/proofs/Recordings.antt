@@ -13,8 +13,8 @@ use Rattle.ca_stage.proofs.Stages.{woven_captures}
 use Rattle.device_registry.specs.declared.endpoint.Endpoint.{Endpoint}
 use Rattle.ca_machine.specs.State.{State, endpoint_at, live_clients}
 use Rattle.ca_machine.specs.Plan.{Answer, bytes_given, is_whole, Outcome, moved}
-use Rattle.ca_machine.specs.Periods.{after_period, frames_recorded, period_frames, period_payload, recording}
-use Rattle.ca_machine.specs.Periods.{recording_moves}
+use Rattle.ca_machine.specs.Periods.{after_period, after_recording, frames_recorded, period_frames, period_payload}
+use Rattle.ca_machine.specs.Periods.{recording, recording_moves}
 use Rattle.ca_machine.specs.Headline.{IsGivenIn}
 use Rattle.ca_machine.proofs.PeriodMoves.{captures_all}
 use Rattle.ca_machine.proofs.PresentStage.{PresentLaws, stage_of, captures_open_none}
@@ -39,25 +39,25 @@ module _ (laws : PresentLaws) (ms : List Move) (st : State) (h : IsInOrder ms st
     (d : Endpoint) (n : HandsNone e)
   where
     -- what such a period gets, by its moves
-    abbrev recorded : List ℕ → Bool → List Move → Outcome
-    recorded payload whole xs = record {
+    abbrev recorded : List ℕ → List Move → State → Outcome
+    recorded payload xs after = record {
       result = hr.S_OK;
       payload = payload;
       moves = xs;
       output = [];
-      after = after_period d.no.0 whole (moved xs st);
+      after = after;
     }
 
     -- no device gave a frame
-    none_given : (payload : List ℕ) (whole : Bool) (xs : List Move) → AreQuiet xs →
-        IsInOrder (ms ++ xs) (moved xs st) → Upholds ms st e given (recorded payload whole xs)
-    none_given payload whole xs q k =
-        upholds_quiet laws ms st h e given (recorded payload whole xs) n q refl
-        (in_order_period (ms ++ xs) (moved xs st) d.no.0 whole k)
+    none_given : (payload : List ℕ) (xs : List Move) (after : State) → AreQuiet xs → IsInOrder (ms ++ xs) after →
+        Upholds ms st e given (recorded payload xs after)
+    none_given payload xs after q k = upholds_quiet laws ms st h e given (recorded payload xs after) n q refl k
 
     -- the device gave frames
     some_given : (payload : List ℕ) (frames : List Frame) → IsGivenIn st given d.no.0 frames →
-        Upholds ms st e given (recorded payload true (captures d.no.0 frames st.stage))
+        Upholds ms st e given
+        (recorded payload (captures d.no.0 frames st.stage)
+        (after_period d.no.0 true (moved (captures d.no.0 frames st.stage) st)))
     some_given payload frames g =
         let xs : List Move = captures d.no.0 frames st.stage in
         let same : xs ≡ captures d.no.0 frames (stage_of ms) =
@@ -65,9 +65,10 @@ module _ (laws : PresentLaws) (ms : List Move) (st : State) (h : IsInOrder ms st
         ∙ (laws.is_whole (live_clients st.clients) ms h.gone).feeds d.no.0 frames in
         record {
           order =
-              in_order_moved laws ms xs st h (captures_open_none (live_clients st.clients) d.no.0 frames st.stage)
+              in_order_period (ms ++ xs) (moved xs st) d.no.0 true
+              (in_order_moved laws ms xs st h (captures_open_none (live_clients st.clients) d.no.0 frames st.stage)
               (captures_all (λ x. adds_none x ≡ true) period_adds d.no.0 frames refl st.stage)
-              (subst (IsWoven (stage_of ms) []) (sym same) (woven_captures d.no.0 frames (stage_of ms)));
+              (subst (IsWoven (stage_of ms) []) (sym same) (woven_captures d.no.0 frames (stage_of ms))));
           mixes = mixes_quiet st _ (feeds_quiet d.no.0 frames st.stage);
           records = (g, records_quiet st given _ (feeds_quiet d.no.0 frames st.stage));
           plays = takes_none _ [] (captures_sound_none d.no.0 frames st.stage (stage_of ms)) refl;
@@ -79,8 +80,12 @@ module _ (laws : PresentLaws) (ms : List Move) (st : State) (h : IsInOrder ms st
 
     -- by whether it gave a whole one
     given_by : (payload : List ℕ) (frames : List Frame) (b : Bool) → IsGivenIn st given d.no.0 frames →
-        Upholds ms st e given (recorded payload true (if b then [] else captures d.no.0 frames st.stage))
-    given_by payload frames true g = none_given payload true [] tt (in_order_moved laws ms [] st h tt tt tt)
+        Upholds ms st e given
+        (recorded payload (if b then [] else captures d.no.0 frames st.stage)
+        (if b
+        then moved (if b then [] else captures d.no.0 frames st.stage) st
+        else after_period d.no.0 true (moved (if b then [] else captures d.no.0 frames st.stage) st)))
+    given_by payload frames true g = none_given payload [] (moved [] st) tt (in_order_moved laws ms [] st h tt tt tt)
     given_by payload frames false g = some_given payload frames g
 
     pub upholds_recording : endpoint_at d.no.0 st ≡ Some d → Upholds ms st e given (recording st d given)
@@ -90,12 +95,15 @@ module _ (laws : PresentLaws) (ms : List Move) (st : State) (h : IsInOrder ms st
         payload whole = period_payload (frames_recorded d (bytes_given given)) whole
 
         go : (whole : Bool) → Upholds ms st e given
-            (recorded (payload whole) whole
-            (recording_moves d (bytes_given given) whole st.stage))
+            (recorded (payload whole) (recording_moves d (bytes_given given) whole st.stage)
+            (after_recording d (bytes_given given) whole
+            (moved (recording_moves d (bytes_given given) whole st.stage) st)))
         go true =
             given_by (payload true) (frames_given (period_frames d) d.format.channels (bytes_given given))
             (whole_frames d.format.channels (bytes_given given) == 0) (d, k, refl)
         go false =
-            none_given (payload false) false (closes_of Removal (open_streams_on d.no.0 st.stage))
+            let xs : List Move = closes_of Removal (open_streams_on d.no.0 st.stage) in
+            none_given (payload false) xs (after_period d.no.0 false (moved xs st))
             (quiet_of Removal (open_streams_on d.no.0 st.stage))
-            (order_closed laws ms st h e given st Removal (open_streams_on d.no.0 st.stage) h)
+            (in_order_period (ms ++ xs) (moved xs st) d.no.0 false
+            (order_closed laws ms st h e given st Removal (open_streams_on d.no.0 st.stage) h))

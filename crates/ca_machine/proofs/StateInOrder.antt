@@ -1,11 +1,11 @@
 -- What holds of every state of a run, after the moves that were made before it.
-use Rattle.std.proofs.Common.{◌≡◌, ℕ, ◌+◌, ◌≤◌, ◌<◌, ◌||◌, ◌==◌, cond, not, List, [], ◌∷◌, ◌++◌, filter, Bool, true}
+use Rattle.std.proofs.Common.{◌≡◌, ◌&&◌, ℕ, ◌+◌, ◌≤◌, ◌<◌, ◌||◌, ◌==◌, cond, not, List, [], ◌∷◌, ◌++◌, filter, Bool, true}
 use Rattle.std.proofs.Common.{false, refl, sym, ap, ap₂, ◌∙◌, subst, append-nil, arith, eqb, eqb-true}
-use Rattle.std.proofs.Common.{if◌then◌else◌, slice_set}
+use Rattle.std.proofs.Common.{if◌then◌else◌, map}
 use Rattle.std.proofs.lemmas.Bool.{or_from, or_parts}
 use Rattle.std.proofs.lemmas.Bool.Decides.{nat_tests}
 use Rattle.std.proofs.lemmas.List.{map-append}
-use Rattle.std.specs.List.{AllByRecursion}
+use Rattle.std.specs.List.{AllByRecursion, list_any}
 use Rattle.ca_base.specs.declared.ids.Reason.TheVariants.{Released}
 use Rattle.ca_base.specs.declared.values.TheConstants.{STATE_NOTPRESENT}
 use Rattle.ca_stage.specs.Stage.{empty_stage, Stream, Stage}
@@ -25,8 +25,7 @@ use Rattle.ca_machine.specs.Seats.{with_playheads}
 use Rattle.ca_machine.specs.Devices.{with_endpoints}
 use Rattle.ca_machine.specs.Plan.{moved}
 use Rattle.ca_machine.specs.Clients.{closes, leaving, new_client}
-use Rattle.ca_machine.specs.Streams.{with_stream_level}
-use Rattle.ca_machine.specs.Periods.{after_period}
+use Rattle.ca_machine.specs.Periods.{after_period, is_signaled, with_event}
 use Rattle.ca_machine.proofs.LiveClients.{IsOfOthers, present_push, gone_push, present_left, gone_left}
 use Rattle.ca_machine.proofs.PresentStage.{PresentLaws, stage_of, OpenPresent, gone_after, AreWithin, within_after}
 use Rattle.ca_machine.proofs.PresentStage.{present_after, tally_present}
@@ -198,34 +197,28 @@ in_order_made ms st conn endpoint role h =
     above : (k n : ℕ) → n ≤ k → eqb (k + 1) n ≡ false
     above k n l = grind (arith, nat_tests)
 
--- a level of a client's stream is another
-numbers_stay : (conn client channel level : ℕ) (clients : List Client) →
-    live_clients (with_stream_level conn client channel level clients) ≡ live_clients clients
-numbers_stay conn client channel level [] = refl
-numbers_stay conn client channel level (c ∷ clients) =
-    ap₂ (λ n ns. n ∷ ns) (stays (is_client_of conn client c)) (numbers_stay conn client channel level clients)
-  where
-    stays : (b : Bool) →
-        (if b then record c { levels = slice_set c.levels channel level } else c).client.0 ≡ c.client.0
-    stays true = refl
-    stays false = refl
+-- clients change, and keep their numbers
+abbrev pub KeepsNumber : (Client → Client) → Type 0
+KeepsNumber f = (c : Client) → (f c).client.0 ≡ c.client.0
 
-made_stay : (k conn client channel level : ℕ) (clients : List Client) → AreMade k clients →
-    AreMade k (with_stream_level conn client channel level clients)
-made_stay k conn client channel level [] h = tt
-made_stay k conn client channel level (c ∷ clients) h =
-    (stays (is_client_of conn client c), made_stay k conn client channel level clients h.1)
-  where
-    stays : (b : Bool) →
-        (if b then record c { levels = slice_set c.levels channel level } else c).client.0 ≤ k
-    stays true = h.0
-    stays false = h.0
+pub keeps_if : (b : Bool) (c d : Client) → d.client.0 ≡ c.client.0 → (if b then d else c).client.0 ≡ c.client.0
+keeps_if true c d h = h
+keeps_if false c d h = refl
 
-pub in_order_levels : (ms : List Move) (st : State) (conn client channel level : ℕ) → IsInOrder ms st →
-    IsInOrder ms (record st { clients = with_stream_level conn client channel level st.clients })
-in_order_levels ms st conn client channel level h =
-    let same : live_clients st.clients ≡ live_clients (with_stream_level conn client channel level st.clients) =
-    sym (numbers_stay conn client channel level st.clients) in
+numbers_stay : (f : Client → Client) → KeepsNumber f → (clients : List Client) →
+    live_clients (map f clients) ≡ live_clients clients
+numbers_stay f k [] = refl
+numbers_stay f k (c ∷ clients) = ap₂ (λ n ns. n ∷ ns) (k c) (numbers_stay f k clients)
+
+made_stay : (f : Client → Client) → KeepsNumber f → (n : ℕ) (clients : List Client) → AreMade n clients →
+    AreMade n (map f clients)
+made_stay f k n [] h = tt
+made_stay f k n (c ∷ clients) h = (subst (λ m. m ≤ n) (sym (k c)) h.0, made_stay f k n clients h.1)
+
+pub in_order_clients : (ms : List Move) (st : State) (f : Client → Client) → KeepsNumber f → IsInOrder ms st →
+    IsInOrder ms (record st { clients = map f st.clients })
+in_order_clients ms st f k h =
+    let same : live_clients st.clients ≡ live_clients (map f st.clients) = sym (numbers_stay f k st.clients) in
     record {
       stands =
           h.stands ∙ ap (λ ns. with_playheads (endpoint_numbers st.endpoints) (present ns (stage_of ms))) same;
@@ -235,8 +228,14 @@ in_order_levels ms st conn client channel level h =
       heads = h.heads;
       numbers = h.numbers;
       streams = h.streams;
-      clients = made_stay st.clients_made conn client channel level st.clients h.clients;
+      clients = made_stay f k st.clients_made st.clients h.clients;
     }
+
+-- the events that a period sets
+events_keep : (number : ℕ) (st : State) → KeepsNumber (with_event number st.stage.streams)
+events_keep number st c =
+    keeps_if (list_any (λ s. s.client == c.client.0 && is_signaled number s) st.stage.streams) c
+    (record c { flagged = true }) refl
 
 -- ---- endpoints come, change and go
 
@@ -339,9 +338,10 @@ in_order_removed ms st number h = record {
   clients = h.clients;
 }
 
--- a period whose device failed leaves its endpoint
+-- a period sets events, or its device failed and leaves its endpoint
 pub in_order_period : (ms : List Move) (st : State) (number : ℕ) (whole : Bool) → IsInOrder ms st →
     IsInOrder ms (after_period number whole st)
-in_order_period ms st number true h = h
+in_order_period ms st number true h =
+    in_order_clients ms st (with_event number st.stage.streams) (events_keep number st) h
 in_order_period ms st number false h =
     in_order_changed ms st number (with_state STATE_NOTPRESENT) (λ e. refl) h

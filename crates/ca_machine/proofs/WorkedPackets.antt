@@ -95,6 +95,8 @@ tuned = record ready {
         endpoint = record { 0 = 2 };
         role = 0;
         levels = full;
+        handle = 0;
+        flagged = false;
       }
       ∷ [];
   endpoints = ready.endpoints

@@ -205,6 +205,8 @@ ready = record {
         endpoint = record { 0 = 1 };
         role = 0;
         levels = full;
+        handle = 0;
+        flagged = false;
       }
       ∷ [];
   endpoints =

@@ -1,6 +1,6 @@
 -- Connections and clients: Open, Hangup, Activate, Release (IMMDevice::Activate; the rest is this project's own).
 use Rattle.std.specs.Prelude.{ℕ, ◌+◌, ◌==◌, ◌&&◌, ◌||◌, not, nat_lt, nat_le, List, [], ◌∷◌, ◌++◌, length, map}
-use Rattle.std.specs.Prelude.{Bool, is_none}
+use Rattle.std.specs.Prelude.{Bool, false, is_none}
 use Rattle.std.specs.List.{filter, list_all, list_any}
 use Rattle.std.specs.Int.{w64, to_le_bytes}
 use Rattle.ca_base.specs.declared.codes.Hr.{Hr}
@@ -127,6 +127,8 @@ new_client client conn endpoint role = record {
   endpoint = record { 0 = endpoint };
   role = role;
   levels = MAX_LEVEL ∷ MAX_LEVEL ∷ MAX_LEVEL ∷ MAX_LEVEL ∷ [];
+  handle = 0;
+  flagged = false;
 }
 
 abbrev pub activate_plan : State → ℕ → ℕ → ℕ → Plan

@@ -133,6 +133,15 @@ set_format_plan st number bytes =
     with_memory st (missing_rows st number ++ (is_faulty bytes, hr.E_INVALIDARG) ∷ [])
     (with_named st (endpoint_at number st) (with_endpoint_format st number bytes))
 
+-- whether an endpoint may be used by one stream alone, and whether that takes precedence over shared streams
+abbrev pub with_exclusive : ℕ → ℕ → Endpoint → Endpoint
+with_exclusive allow priority e = record e { allow = allow == 1; priority = priority == 1 }
+
+abbrev pub set_exclusive_plan : State → ℕ → ℕ → ℕ → Plan
+set_exclusive_plan st number allow priority =
+    plain (missing_rows st number ++ (nat_lt 1 allow || nat_lt 1 priority, hr.E_INVALIDARG) ∷ [])
+    (granted [] [] (record st { endpoints = changed number (with_exclusive allow priority) st.endpoints }))
+
 -- an endpoint with another name
 abbrev pub with_name : List ℕ → Endpoint → Endpoint
 with_name name e = record e { name = name }

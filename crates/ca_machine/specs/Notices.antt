@@ -22,6 +22,7 @@ use Rattle.event_notices.specs.declared.kinds.TheConstants.{
   DISPLAY_NAME,
   GROUPING,
   ICON_PATH,
+  PROPERTY_EXCLUSIVE,
   PROPERTY_FORMAT,
   PROPERTY_NAME,
   SIMPLE_VOLUME,
@@ -70,9 +71,11 @@ noted st = record {
 
 -- ---- what the event itself tells
 
--- a device event that changed a property of an endpoint: its name or its format
+-- a device event that changed a property of an endpoint: its name, its format, or what is said of exclusive use
 abbrev pub property_notices : Event → List Notice
 property_notices (event.Device (device.SetFormat e format)) = note DEVICE_PROPERTY e.0 PROPERTY_FORMAT ∷ []
+property_notices (event.Device (device.SetExclusive e allow priority)) =
+    note DEVICE_PROPERTY e.0 PROPERTY_EXCLUSIVE ∷ []
 property_notices (event.Device (device.SetName e name)) = note DEVICE_PROPERTY e.0 PROPERTY_NAME ∷ []
 property_notices _ = []
 

@@ -19,12 +19,13 @@ use Rattle.session_manager.specs.declared.session.Session.{Session}
 use Rattle.session_manager.specs.Sessions.{session_at}
 use Rattle.ca_stage.specs.Stage.{Stage, Stream}
 use Rattle.ca_stage.specs.Moves.{Mixing, Move, of_client, closed, after_moves, stream_at}
-use Rattle.ca_stage.specs.Periods.{captures, is_hearing, is_recording, open_streams_on, picks, sub_steps}
+use Rattle.ca_stage.specs.Periods.{captures, is_hearing, is_open_on, is_recording, open_streams_on, picks, sub_steps}
 use Rattle.ca_stage.specs.Mix.{sound_bytes}
 use Rattle.ca_stage.specs.Fates.{next_of}
 use Rattle.ca_stage.specs.Given.{frames_given, whole_frames}
 use Rattle.device_registry.specs.declared.endpoint.Endpoint.{Endpoint}
 use Rattle.device_registry.specs.Endpoints.{changed, with_state}
+use Rattle.ca_machine.specs.declared.state.Client.{Client}
 use Rattle.ca_machine.specs.State.{State, endpoint_at}
 use Rattle.ca_machine.specs.Plan.{Outcome, Plan, Answer, plain, refused, moved, is_whole, pieces, bytes_given}
 use Rattle.ca_machine.specs.Plan.Asked.{writing, reading}
@@ -78,13 +79,26 @@ abbrev pub period_payload : ℕ → Bool → List ℕ
 period_payload frames true = to_le_bytes w32 frames ++ 0 ∷ []
 period_payload frames false = to_le_bytes w32 0 ++ 1 ∷ []
 
--- the endpoints after a period: one whose device failed is NOTPRESENT
+-- the endpoints after a period whose device failed: it is NOTPRESENT
 abbrev pub with_failed : ℕ → List Endpoint → List Endpoint
 with_failed number endpoints = changed number (with_state STATE_NOTPRESENT) endpoints
 
+-- a stream takes part in a period of an endpoint, and is driven by events: each open one that runs plays, hears or
+-- records it
+abbrev pub is_signaled : ℕ → Stream → Bool
+is_signaled number s = is_open_on number s && (s.running && s.event_driven)
+
+-- the event of a client is set if such a stream is its own
+abbrev pub with_event : ℕ → List Stream → Client → Client
+with_event number streams c =
+    if list_any (λ s. s.client == c.client.0 && is_signaled number s) streams then record c { flagged = true } else c
+
+abbrev pub with_events : ℕ → State → State
+with_events number st = record st { clients = map (with_event number st.stage.streams) st.clients }
+
 -- the state after a period, by whether the device took or gave all that it was asked
 abbrev pub after_period : ℕ → Bool → State → State
-after_period number true st = st
+after_period number true st = with_events number st
 after_period number false st = record st { endpoints = with_failed number st.endpoints }
 
 -- a period of an endpoint that plays
@@ -121,6 +135,12 @@ recording_moves e bytes true st =
     else captures e.no.0 (frames_given (period_frames e) e.format.channels bytes) st
 recording_moves e bytes false st = map (λ s. of_client s.client (closed Removal)) (open_streams_on e.no.0 st)
 
+-- and after it: events are set if something was offered
+abbrev pub after_recording : Endpoint → List ℕ → Bool → State → State
+after_recording e bytes true st =
+    if whole_frames e.format.channels bytes == 0 then st else after_period e.no.0 true st
+after_recording e bytes false st = after_period e.no.0 false st
+
 -- a period of an endpoint that captures
 abbrev pub recording : State → Endpoint → List Answer → Outcome
 recording st e given = record {
@@ -128,7 +148,7 @@ recording st e given = record {
   payload = period_payload (frames_recorded e (bytes_given given)) (is_whole given);
   moves = recording_moves e (bytes_given given) (is_whole given) st.stage;
   output = [];
-  after = after_period e.no.0 (is_whole given)
+  after = after_recording e (bytes_given given) (is_whole given)
       (moved (recording_moves e (bytes_given given) (is_whole given) st.stage) st);
 }
 

@@ -31,6 +31,7 @@ use Rattle.ca_machine.specs.Streams.{
   start_plan,
   stop_plan,
   reset_plan,
+  set_event_handle_plan,
   get_service_plan,
   get_position_plan,
   get_stream_level_plan,
@@ -55,6 +56,7 @@ use Rattle.ca_machine.specs.Devices.{
   add_plan,
   remove_plan,
   set_default_plan,
+  set_exclusive_plan,
   set_format_plan,
   set_name_plan,
   set_state_plan,
@@ -99,6 +101,7 @@ call_plan st conn (call.GetDevicePeriod c) = get_device_period_plan st conn c.0
 call_plan st conn (call.Start c) = start_plan st conn c.0
 call_plan st conn (call.Stop c) = stop_plan st conn c.0
 call_plan st conn (call.Reset c) = reset_plan st conn c.0
+call_plan st conn (call.SetEventHandle c handle) = set_event_handle_plan st conn c.0 handle
 call_plan st conn (call.GetService c service) = get_service_plan st conn c.0 service
 call_plan st conn (call.GetPosition c) = get_position_plan st conn c.0
 call_plan st conn (call.GetStreamLevel c channel) = get_stream_level_plan st conn c.0 channel
@@ -125,6 +128,7 @@ device_plan st (device.SetState e state) = set_state_plan st e.0 state
 device_plan st (device.Remove e) = remove_plan st e.0
 device_plan st (device.SetFormat e format) = set_format_plan st e.0 format.list
 device_plan st (device.SetDefault flow role e) = set_default_plan st flow role e.0
+device_plan st (device.SetExclusive e allow priority) = set_exclusive_plan st e.0 allow priority
 device_plan st (device.SetName e name) = set_name_plan st e.0 name
 device_plan st (device.Other code rest) = unlisted_device_plan st
 

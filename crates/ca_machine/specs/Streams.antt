@@ -98,13 +98,13 @@ is_cross_process flags = not (flags / STREAM_CROSSPROCESS % 2 == 0)
 abbrev pub has_loopback : ℕ → Bool
 has_loopback flags = not (flags / STREAM_LOOPBACK % 2 == 0)
 
+-- the periods of the stream set an event
+abbrev pub has_event : ℕ → Bool
+has_event flags = not (flags / STREAM_EVENTCALLBACK % 2 == 0)
+
 -- the level of a session that is made is kept: NOPERSIST isn't set
 abbrev pub is_kept : ℕ → Bool
 is_kept flags = flags / STREAM_NOPERSIST % 2 == 0
-
--- EVENTCALLBACK comes with a later part of the service
-abbrev pub has_later_flag : ℕ → Bool
-has_later_flag flags = not (flags / STREAM_EVENTCALLBACK % 2 == 0)
 
 -- flags other than those four: below the lowest of them, or above the highest
 abbrev pub has_other_flag : ℕ → Bool
@@ -146,7 +146,7 @@ new_stream flow client x session = record {
   endpoint = client.endpoint.0;
   kind = kind_opened flow x.flags;
   exclusive = false;
-  event_driven = false;
+  event_driven = has_event x.flags;
   channels = (spelled x.format).channels;
   rate = (spelled x.format).rate;
   buffer = shared_buffer (spelled x.format).rate x.duration;
@@ -190,9 +190,9 @@ abbrev pub joining_rows : State → ℕ → Option Client → Opening → List (
 joining_rows st conn None x = []
 joining_rows st conn (Some client) x = join_rows (session_key st conn client x) (session_list st)
 
--- values that come with later parts of the service
+-- exclusive use comes with a later part of the service
 abbrev pub later_rows : Opening → List (Row Hr)
-later_rows x = (x.share == SHARE_EXCLUSIVE || has_later_flag x.flags, hr.E_NOTIMPL) ∷ []
+later_rows x = (x.share == SHARE_EXCLUSIVE, hr.E_NOTIMPL) ∷ []
 
 -- an endpoint that is there captures
 abbrev pub is_capturing : Option Endpoint → Bool
@@ -315,12 +315,20 @@ get_service_plan st conn client service =
 
 -- ---- Start, Stop and Reset
 
-abbrev pub start_rows : Option Stream → List (Row Hr)
-start_rows stream = (if_stream (λ s. s.running) stream, hr.NOT_STOPPED) ∷ []
+-- the stream is driven by events, and its client has set no handle
+abbrev pub lacks_handle : Option Client → Stream → Bool
+lacks_handle client s = s.event_driven && option_map_or (λ c. c.handle == 0) client true
+
+abbrev pub start_rows : Option Client → Option Stream → List (Row Hr)
+start_rows client stream =
+    (if_stream (λ s. s.running) stream, hr.NOT_STOPPED)
+    ∷ (if_stream (lacks_handle client) stream, hr.EVENTHANDLE_NOT_SET)
+    ∷ []
 
 abbrev pub start_plan : State → ℕ → ℕ → Plan
 start_plan st conn client =
-    stream_plan st conn client start_rows (λ s. granted [] (of_client client started ∷ []) st)
+    stream_plan st conn client (start_rows (client_of conn client st))
+    (λ s. granted [] (of_client client started ∷ []) st)
 
 abbrev pub stop_rows : Option Stream → List (Row Hr)
 stop_rows stream = (if_stream (λ s. not s.running) stream, hr.S_FALSE) ∷ []
@@ -343,6 +351,22 @@ reset_rows stream =
 abbrev pub reset_plan : State → ℕ → ℕ → Plan
 reset_plan st conn client =
     stream_plan st conn client reset_rows (λ s. granted [] (of_client client reset ∷ []) st)
+
+-- ---- SetEventHandle
+
+abbrev pub set_event_handle_rows : ℕ → Option Stream → List (Row Hr)
+set_event_handle_rows handle stream =
+    (if_stream (λ s. not s.event_driven) stream, hr.EVENTHANDLE_NOT_EXPECTED) ∷ (handle == 0, hr.E_INVALIDARG) ∷ []
+
+-- clients after this one's handle was set
+abbrev pub with_handle : ℕ → ℕ → ℕ → List Client → List Client
+with_handle conn client handle clients =
+    map (λ c. if is_client_of conn client c then record c { handle = handle } else c) clients
+
+abbrev pub set_event_handle_plan : State → ℕ → ℕ → ℕ → Plan
+set_event_handle_plan st conn client handle =
+    stream_plan st conn client (set_event_handle_rows handle)
+    (λ s. granted [] [] (record st { clients = with_handle conn client handle st.clients }))
 
 -- ---- levels of a stream's channels
 

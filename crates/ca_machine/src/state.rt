@@ -20,4 +20,8 @@ pub struct Client {
     pub role: u8,
     /// The level of each channel of its stream, from 0 to 65536 (IAudioStreamVolume).
     pub levels: [u32; 4],
+    /// The handle of its event (IAudioClient::SetEventHandle), 0 if none was set.
+    pub handle: u64,
+    /// Whether its event was set by a period and not taken yet.
+    pub flagged: bool,
 }

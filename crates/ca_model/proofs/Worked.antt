@@ -102,6 +102,10 @@ stopped = refl
 reset : called 15 (call.Reset (record { 0 = 258 })) (25 ∷ client)
 reset = refl
 
+-- a handle of 77
+set_event_handle : called 23 (call.SetEventHandle (record { 0 = 258 }) 77) (26 ∷ client ++ 77 ∷ replicate 7 0)
+set_event_handle = refl
+
 asked_of_service : called 19 (call.GetService (record { 0 = 258 }) 3) (27 ∷ client ++ 3 ∷ 0 ∷ 0 ∷ 0 ∷ [])
 asked_of_service = refl
 
@@ -200,6 +204,11 @@ set_format = refl
 set_default : frame (event.Device (device.SetDefault 0 2 (record { 0 = 3 })))
     ≡ 8 ∷ 0 ∷ 0 ∷ 0 ∷ 5 ∷ 5 ∷ 0 ∷ 2 ∷ 3 ∷ 0 ∷ 0 ∷ 0 ∷ []
 set_default = refl
+
+-- exclusive use is allowed, and has no priority
+set_exclusive : frame (event.Device (device.SetExclusive (record { 0 = 3 }) 1 0))
+    ≡ 8 ∷ 0 ∷ 0 ∷ 0 ∷ 5 ∷ 6 ∷ 3 ∷ 0 ∷ 0 ∷ 0 ∷ 1 ∷ 0 ∷ []
+set_exclusive = refl
 
 set_name : frame (event.Device (device.SetName (record { 0 = 3 }) (83 ∷ [])))
     ≡ 9 ∷ 0 ∷ 0 ∷ 0 ∷ 5 ∷ 8 ∷ 3 ∷ 0 ∷ 0 ∷ 0 ∷ 1 ∷ 0 ∷ 83 ∷ []

@@ -55,6 +55,7 @@ calls =
     ∷ (23, eight_bytes ∷ [])
     ∷ (24, eight_bytes ∷ [])
     ∷ (25, eight_bytes ∷ [])
+    ∷ (26, eight_bytes ∷ eight_bytes ∷ [])
     ∷ (27, eight_bytes ∷ four_bytes ∷ [])
     ∷ (28, eight_bytes ∷ [])
     ∷ (29, eight_bytes ∷ four_bytes ∷ [])
@@ -82,6 +83,7 @@ device_events =
     ∷ (3, four_bytes ∷ [])
     ∷ (4, four_bytes ∷ format ∷ [])
     ∷ (5, byte ∷ byte ∷ four_bytes ∷ [])
+    ∷ (6, four_bytes ∷ byte ∷ byte ∷ [])
     ∷ (8, four_bytes ∷ text ∷ [])
     ∷ []
 
@@ -116,6 +118,7 @@ call_code (call.GetDevicePeriod c) = 22
 call_code (call.Start c) = 23
 call_code (call.Stop c) = 24
 call_code (call.Reset c) = 25
+call_code (call.SetEventHandle c handle) = 26
 call_code (call.GetService c service) = 27
 call_code (call.GetPosition c) = 28
 call_code (call.GetStreamLevel c channel) = 29
@@ -157,6 +160,7 @@ call_fields (call.GetDevicePeriod c) = number c.0 ∷ []
 call_fields (call.Start c) = number c.0 ∷ []
 call_fields (call.Stop c) = number c.0 ∷ []
 call_fields (call.Reset c) = number c.0 ∷ []
+call_fields (call.SetEventHandle c handle) = number c.0 ∷ number handle ∷ []
 call_fields (call.GetService c service) = number c.0 ∷ number service ∷ []
 call_fields (call.GetPosition c) = number c.0 ∷ []
 call_fields (call.GetStreamLevel c channel) = number c.0 ∷ number channel ∷ []
@@ -183,6 +187,7 @@ device_code (device.SetState e state) = 2
 device_code (device.Remove e) = 3
 device_code (device.SetFormat e f) = 4
 device_code (device.SetDefault flow role e) = 5
+device_code (device.SetExclusive e allow priority) = 6
 device_code (device.SetName e name) = 8
 device_code (device.Other code tail) = code
 
@@ -192,6 +197,7 @@ device_fields (device.SetState e state) = number e.0 ∷ number state ∷ []
 device_fields (device.Remove e) = number e.0 ∷ []
 device_fields (device.SetFormat e f) = number e.0 ∷ bytes f.list ∷ []
 device_fields (device.SetDefault flow role e) = number flow ∷ number role ∷ number e.0 ∷ []
+device_fields (device.SetExclusive e allow priority) = number e.0 ∷ number allow ∷ number priority ∷ []
 device_fields (device.SetName e name) = number e.0 ∷ bytes name ∷ []
 device_fields (device.Other code tail) = bytes tail.list ∷ []
 

@@ -115,6 +115,11 @@ pub enum Call {
     Reset {
         client: ClientNo,
     },
+    /// 26: IAudioClient::SetEventHandle. The handle is the caller's own number, which isn't 0.
+    SetEventHandle {
+        client: ClientNo,
+        handle: u64,
+    },
     /// 27: IAudioClient::GetService, by the service's number from 1 to 7 (own).
     GetService {
         client: ClientNo,
@@ -241,6 +246,13 @@ pub enum DeviceEvent {
         flow: u8,
         role: u8,
         endpoint: EndpointNo,
+    },
+    /// 6: whether an endpoint may be used by one stream alone, and whether that takes precedence over shared streams:
+    /// 0 or 1 each (the boxes 'exclusive mode' of an endpoint's properties).
+    SetExclusive {
+        endpoint: EndpointNo,
+        allow: u8,
+        priority: u8,
     },
     /// 8: an endpoint's name (PKEY_Device_FriendlyName).
     SetName {

@@ -29,6 +29,7 @@ pub fn read_call(alloc: Global, code: u8, input: &[u8]) -> Result<Call, Fault>
         7 => Ok(read_register(input)?),
         16 => read_initialize(alloc, input),
         20 => read_is_format_supported(alloc, input),
+        26 => Ok(read_set_event_handle(input)?),
         27 => Ok(read_get_service(input)?),
         6 | 8 | 17..=19 | 21..=25 | 28 | 49 => Ok(read_number_call(code, input)?),
         29 => Ok(read_get_stream_level(input)?),
@@ -168,6 +169,16 @@ fn read_is_format_supported(alloc: Global, input: &[u8]) -> Result<Call, Fault>
         share,
         format: Bytes::from_slice(alloc, format)?,
     })
+}
+
+fn read_set_event_handle(input: &[u8]) -> Result<Call, NoField>
+    ensures { GivesCall 26 result input.now }
+{
+    let (client, rest) = take_u64(input)?;
+    let (handle, rest) = take_u64(rest)?;
+    expect_end(rest)?;
+    let client = ClientNo(client);
+    Ok(Call::SetEventHandle { client, handle })
 }
 
 fn read_get_service(input: &[u8]) -> Result<Call, NoField>

@@ -20,6 +20,7 @@ pub fn read_device(alloc: Global, code: u8, input: &[u8]) -> Result<DeviceEvent,
         3 => Ok(read_remove(input)?),
         4 => read_set_format(alloc, input),
         5 => Ok(read_set_default(input)?),
+        6 => Ok(read_set_exclusive(input)?),
         8 => Ok(read_set_name(input)?),
         _ => read_other_device(alloc, code, input),
     }
@@ -84,6 +85,20 @@ fn read_set_default(input: &[u8]) -> Result<DeviceEvent, NoField>
         flow,
         role,
         endpoint: EndpointNo(endpoint),
+    })
+}
+
+fn read_set_exclusive(input: &[u8]) -> Result<DeviceEvent, NoField>
+    ensures { GivesDevice 6 result input.now }
+{
+    let (endpoint, rest) = take_u32(input)?;
+    let (allow, rest) = take_u8(rest)?;
+    let (priority, rest) = take_u8(rest)?;
+    expect_end(rest)?;
+    Ok(DeviceEvent::SetExclusive {
+        endpoint: EndpointNo(endpoint),
+        allow,
+        priority,
     })
 }
 

@@ -5,20 +5,24 @@ ghost use Rattle.std.specs.Int.{to_le_bytes, w32};
 ghost use Rattle.reply_payload.specs.Answers.{is_failure, payload_bytes, payload_code};
 
 use crate::pieces::{flag, put_format};
-use ca_base::limits::{MAX_TEXT, NOTICES};
+use ca_base::limits::{CLIENTS, MAX_TEXT, NOTICES};
 use ca_base::{Bytes, Hr};
 use call_wire::NOTICE_HEAD;
 use wave_format::Format;
 
-/// What a payload of notices has ahead of them, in bytes: how many event flags there are, how many notices were lost,
-/// and how many there are.
+/// What a payload of notices has beside them and events, in bytes: how many events there are, how many notices were
+/// lost, and how many there are.
 pub const NOTICES_HEAD: usize = 4 + 8 + 4;
+
+/// An event in such a payload, in bytes: the number of its client, and its handle.
+pub const EVENT_SIZE: usize = 8 + 8;
 
 /// The longest notice in a payload, in bytes.
 pub const LONGEST_NOTICE: usize = NOTICE_HEAD + MAX_TEXT;
 
-/// The longest payload of a reply, in bytes: all notices that a connection keeps, each with the longest text.
-pub const REPLY_ROOM: usize = NOTICES_HEAD + NOTICES * LONGEST_NOTICE;
+/// The longest payload of a reply, in bytes: an event of each client, and all notices that a connection keeps, each with
+/// the longest text.
+pub const REPLY_ROOM: usize = NOTICES_HEAD + CLIENTS * EVENT_SIZE + NOTICES * LONGEST_NOTICE;
 
 /// The payload of a granted call.
 #[derive(Clone, Copy, Debug, PartialEq, Eq)]

@@ -5,7 +5,8 @@ ghost use Rattle.ca_base.specs.declared.limits.TheConstants.{MAX_TEXT};
 ghost use Rattle.reply_payload.specs.declared.payload.TheConstants.{REPLY_ROOM};
 
 use super::*;
-use ca_base::{Bytes, EndpointNo, Flow, Guid, Hr, NoMemory, Text};
+use ca_base::{Bytes, ClientNo, ConnNo, EndpointNo, Flow, Guid, Hr, NoMemory, Text};
+use ca_machine::Client;
 use device_registry::Endpoint;
 use event_notices::Notice;
 use session_manager::{SessionBook, SessionKey};
@@ -39,6 +40,19 @@ fn notice(kind: u8, subject: u64, context: u128, value: u64, text: &[u8]) -> Not
         context: Guid(context),
         value,
         text: Text::new(text),
+    }
+}
+
+/// A client of a connection, with the handle of its event.
+fn client(no: u64, conn: u8, handle: u64, flagged: bool) -> Client {
+    Client {
+        client: ClientNo(no),
+        conn: ConnNo(conn),
+        endpoint: EndpointNo(1),
+        role: 0,
+        levels: [65536; 4],
+        handle,
+        flagged,
     }
 }
 
@@ -86,10 +100,20 @@ fn notices_are_told(rt: HostRuntime) -> Result<(), Fail> {
         notice(9, 3, 0x00112233_4455_6677_8899_AABBCCDDEEFF, 65536, b""),
         notice(11, 258, 9, 1, b"ab"),
     ];
+    // The second client's event was taken, and the third is of another connection.
+    let clients = [
+        client(258, 7, 259, true),
+        client(259, 7, 260, false),
+        client(260, 8, 261, true),
+        client(261, 7, 262, true),
+    ];
     let mut out = empty(rt.alloc())?;
-    put_notices(513, &notices, &mut out);
+    put_notices(&clients, ConnNo(7), 513, &notices, &mut out);
     let bytes = [
-        0, 0, 0, 0, 1, 2, 0, 0, 0, 0, 0, 0, 2, 0, 0, 0, // event flags, lost, notices
+        2, 0, 0, 0, // events
+        2, 1, 0, 0, 0, 0, 0, 0, 3, 1, 0, 0, 0, 0, 0, 0, // client, handle
+        5, 1, 0, 0, 0, 0, 0, 0, 6, 1, 0, 0, 0, 0, 0, 0, // client, handle
+        1, 2, 0, 0, 0, 0, 0, 0, 2, 0, 0, 0, // lost, notices
         9, 3, 0, 0, 0, 0, 0, 0, 0, // kind, subject
         0, 17, 34, 51, 68, 85, 102, 119, 136, 153, 170, 187, 204, 221, 238, 255, // context
         0, 0, 1, 0, 0, 0, 0, 0, 0, 0, // value, text

@@ -101,15 +101,21 @@ module _ {D E : Type 0} (b : Board D E) (number at : ℕ) (bytes : List ℕ) (li
         entries = entries;
       }
 
-      pub made_does : (faults : D → ℕ) (told : D → Option (List DeviceLog)) →
+      made_does : (faults : D → ℕ) (told : D → Option (List DeviceLog)) →
           Does faults told moves None AnyData b made_board (λ st. set_format_plan st number bytes) hr.S_OK []
       made_does =
           format_does b number at bytes m.found read m.spells moves state order entries
           (loses_by moves state entries matched matched_is loses) registry (replaces_by registry now) seat seat_read
           block (size_by frames block frames_are size)
 
-      pub made_order : InOrder state made_board
+      made_order : InOrder state made_board
       made_order =
           format_order b number at bytes m.found read m.spells moves state order entries
           (loses_by moves state entries matched matched_is loses) registry (replaces_by registry now) seat seat_read
           block (size_by frames block frames_are size)
+
+      -- what such an event does, and that the board stays in order
+      pub made_ends : (faults : D → ℕ) (told : D → Option (List DeviceLog)) →
+          Does faults told moves None AnyData b made_board (λ st. set_format_plan st number bytes) hr.S_OK []
+          × InOrder state made_board
+      made_ends faults told = (made_does faults told, made_order)

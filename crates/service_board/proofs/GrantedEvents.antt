@@ -85,3 +85,25 @@ book_does faults told moves given known stays b book plan result payload grants 
     still : (store : Option _) → Made moves given [] store store
     still (Some a) = stays a
     still None = refl
+
+-- an event does the same by a plan that is the same from the states of the board
+pub replanned : {D E : Type 0} (faults : D → ℕ) (told : D → Option (List DeviceLog))
+    (moves : E → List StoreStep → E → Type 0) (given : Option E) (known : (ℕ → BufferData) → Type 0)
+    (old new : Board D E) (plan plan' : State → Plan) (result : Hr) (payload : List ℕ) →
+    ((datas : ℕ → BufferData) (tally : Tally) → plan (state_of datas tally old) ≡ plan' (state_of datas tally old)) →
+    Does faults told moves given known old new plan result payload →
+    Does faults told moves given known old new plan' result payload
+replanned faults told moves given known old new plan plan' result payload same does = record {
+  steps = does.steps;
+  made = does.made;
+  packs = does.packs;
+  does = λ datas tally agree knows.
+      let answered = does.does datas tally agree knows in
+      record {
+        tally = answered.tally;
+        answers =
+            subst (λ p. AnswersBy (state_of datas tally old) p result payload
+            (state_of (after_steps does.steps old.entries.items datas) answered.tally new)
+            (outside faults told old.devices) (outside faults told new.devices)) (same datas tally) answered.answers;
+      };
+}

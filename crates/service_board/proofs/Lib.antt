@@ -30,9 +30,10 @@ pub mod ChangedBoards
 pub mod NamedDoes
 pub mod RemovedSeats
 pub mod RemovedBoards
-pub mod NamingEndpoints
+pub mod ReplacedEndpoints
 pub mod ChoosingDefaults
 pub mod PeriodOrder
+pub mod EventsSet
 pub mod PeriodEnds
 pub mod Sounding
 pub mod Connecting
@@ -51,8 +52,11 @@ pub mod Opened
 pub mod OpenedOrder
 pub mod Places
 pub mod OpeningRows
+pub mod ChangedClients
 pub mod SettingLevels
 pub mod StreamLevels
+pub mod EventHandles
+pub mod StartedStreams
 pub mod SettingSessions
 pub mod SameStreams
 pub mod FreshGains

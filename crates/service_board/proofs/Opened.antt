@@ -80,6 +80,8 @@ module _ {D E : Type 0} (x : Asked) (old : Board D E) (plan : OpeningPlan) (p : 
       session.0 (datas x.client.0)) (sym p.kind)
       ∙ ap (λ words. stream_by x.client.0 plan.endpoint.0 plan.kind plan.format plan.buffer words session.0
       (datas x.client.0)) (sym p.words)
+      ∙ ap (λ on. record (stream_by x.client.0 plan.endpoint.0 plan.kind plan.format plan.buffer plan.words session.0
+      (datas x.client.0)) { event_driven = on }) (sym p.event)
 
   -- the stage with the new entry is the one after the stream was opened
   stage_is : (at : ℕ) (session : SessionNo) (store : E) (datas : ℕ → BufferData) → IsFresh x.client.0 datas →

@@ -260,8 +260,9 @@ module _ {D E : Type 0} (faults : D → ℕ) (told : D → Option (List DeviceLo
 
     module _ (renders : its_endpoint.flow ≡ flow.Render) (fresh : b.book.levels_changed ≡ false)
         (heads : map playhead_of new.seats.items ≡ heads_by any_mixing whole (map playhead_of b.seats.items))
-        (book : (stage : Stage) (tally : Tally) → book_state new.book stage tally
-        ≡ machine.after_period its_endpoint.no.0 whole (book_state b.book stage tally))
+        (book : (datas : ℕ → BufferData) (tally : Tally) → state_of datas tally new
+        ≡ machine.after_period its_endpoint.no.0 whole
+        (book_state b.book (stage_with datas new.seats.items new.entries.items) tally))
         (payload : List ℕ) (payload_is : payload ≡ period_payload any_mixing.frames whole)
       where
         module _ (datas : ℕ → BufferData) (tally : Tally) (agree : AllAgree plays.steps datas b.entries.items) where
@@ -289,8 +290,8 @@ module _ {D E : Type 0} (faults : D → ℕ) (told : D → Option (List DeviceLo
           state_is : state_of data_then tally_then new
               ≡ machine.after_period its_endpoint.no.0 whole (plan.moved sub_moves (state_of datas tally b))
           state_is =
-              ap (λ stage. book_state new.book stage tally_then) stage_is
-              ∙ book (after_moves (stage_by datas) sub_moves) tally_then
+              book data_then tally_then
+              ∙ ap (λ stage. machine.after_period its_endpoint.no.0 whole (book_state b.book stage tally_then)) stage_is
 
           abbrev given : List Answer
           given = answers_of plays.offers.counts whole

@@ -16,6 +16,8 @@ use Rattle.wave_format.specs.Format.{IsValid, frames_of_time}
 use Rattle.buffer_ring.specs.declared.step.EndState.{EndState}
 use Rattle.buffer_ring.specs.declared.step.StoreStep.{StoreStep}
 use Rattle.ca_stage.specs.Moves.{finished, playhead_after}
+use Rattle.ca_stage.specs.Stage.{BufferData}
+use Rattle.ca_stage.specs.Tally.{Tally}
 use Rattle.ca_stage.specs.Order.{AreDistinct, RisesFrom}
 use Rattle.ca_stage.proofs.Clients.{rising_distinct}
 use Rattle.ca_stage.proofs.PlayheadPlaces.{head_in_place}
@@ -24,21 +26,24 @@ use Rattle.device_registry.specs.declared.endpoint.Endpoint.{Endpoint}
 use Rattle.ca_machine.specs.State.{empty_state}
 use Rattle.device_registry.specs.Endpoints.{EndpointList, with_state}
 use Rattle.device_registry.specs.Changes.{with_changed}
-use Rattle.ca_machine.specs.Periods.{mixing_of, period_frames, period_plan, with_failed}
+use Rattle.ca_machine.specs.declared.state.Client.{Client}
+use Rattle.ca_machine.specs.Periods.{mixing_of, period_frames, period_plan, with_events, with_failed}
 use Rattle.step_notices.specs.Notes.{Notes}
 use Rattle.period_engine.specs.declared.entry.StreamEntry.{StreamEntry}
 use Rattle.period_engine.specs.declared.block.Block.{Block}
 use Rattle.period_engine.specs.Entries.{IsRested}
 use Rattle.period_engine.specs.Sounds.{HasFeedRoom, IsSameSize}
 use Rattle.service_book.specs.BookState.{book_state}
-use Rattle.service_board.specs.Board.{playhead_of}
+use Rattle.service_board.specs.Board.{playhead_of, stage_with, state_of}
 use Rattle.service_board.specs.Does.{AnyData, Does}
 use Rattle.service_board.specs.Due.{FindsDue, HasFlow}
+use Rattle.service_board.specs.Events.{with_event}
 use Rattle.service_board.specs.InOrder.{InOrder, Seats}
 use Rattle.service_board.specs.Plays.{Plays}
 use Rattle.service_board.specs.declared.board.Board.{Board}
 use Rattle.service_board.specs.declared.board.Seat.{Seat}
 use Rattle.service_board.proofs.ChangedEndpoints.{book_changed, zip_changed}
+use Rattle.service_board.proofs.EventsSet.{clients_are, clients_then, events_alike, events_order}
 use Rattle.service_board.proofs.PeriodDoes.{get_mapped, period_does, seat_numbers}
 use Rattle.service_board.proofs.PeriodNeeds.{channels_read, end_gains}
 use Rattle.service_board.proofs.PeriodNeeds.{frames_read, same_room, seat_read}
@@ -130,14 +135,31 @@ module _ {D E : Type 0} (faults : D → ℕ) (told : D → Option (List DeviceLo
         (read : Read xs ws e frames s block)
         (plays : Plays moves number frames (end_gains e.format.channels) true xs ws (faults b.devices) (told b.devices)
         (faults devices) (told devices))
-        (rested : All (IsRested state) ws)
+        (rested : All (IsRested state) ws) (cs : List Client)
+        (events : cs ≡ map (with_event number ws) b.book.clients.items)
       where
-        abbrev pub whole_board : Board D E
-        whole_board = record b {
+        abbrev unsignaled : Board D E
+        unsignaled = record b {
           devices = devices;
           seats = with_item b.seats at (record { endpoint = s.endpoint; next = s.next + frames; block = block });
           entries = with_items b.entries ws;
         }
+
+        -- the clients' events are set
+        abbrev pub whole_board : Board D E
+        whole_board = record unsignaled { book = record b.book { clients = clients_then b cs } }
+
+        events_are : (datas : ℕ → BufferData) (tally : Tally) → state_of datas tally whole_board
+            ≡ with_events here.no.0
+            (book_state b.book (stage_with datas whole_board.seats.items whole_board.entries.items) tally)
+        events_are datas tally =
+            let stage = stage_with datas whole_board.seats.items whole_board.entries.items in
+            ap (λ xs. record (book_state b.book stage tally) { clients = xs })
+            (clients_are b number ws false cs events
+            ∙ events
+            ∙ ap₂ (λ n ys. map (with_event n ys) b.book.clients.items) (sym due.active.number_is)
+            (sym (entries_are xs ws e frames s block read))
+            ∙ events_alike here.no.0 datas whole_board.entries.items b.book.clients.items)
 
         abbrev plays_whole : Plays moves here.no.0 (period_frames here) (end_gains here.format.channels) true
             b.entries.items whole_board.entries.items (faults b.devices) (told b.devices) (faults devices)
@@ -157,22 +179,22 @@ module _ {D E : Type 0} (faults : D → ℕ) (told : D → Option (List DeviceLo
             (distinct devices xs ws e frames s block true read plays rested)
             (get_mapped playhead_of b.seats.items at due.seat due.seat_here) due.seats.number)
 
-        pub whole_does : HasFlow flow.Render b.book at → b.book.levels_changed ≡ false →
+        whole_does : HasFlow flow.Render b.book at → b.book.levels_changed ≡ false →
             Does faults told moves None AnyData b whole_board (λ st. period_plan st number) hr.S_OK
             (to_le_bytes w32 frames ++ 0 ∷ [])
         whole_does renders fresh =
             period_does faults told moves state b whole_board order number at due true plays_whole
-            (renders here due.active.here) fresh whole_heads
-            (λ stage tally. refl) (to_le_bytes w32 frames ++ 0 ∷ [])
+            (renders here due.active.here) fresh whole_heads events_are (to_le_bytes w32 frames ++ 0 ∷ [])
             (ap (λ n. to_le_bytes w32 n ++ 0 ∷ []) (frames_here xs ws e frames s block read))
 
-        pub whole_order : InOrder state whole_board
+        whole_order : InOrder state whole_board
         whole_order =
             let room = due.room in
             let frames_are = frames_here xs ws e frames s block read in
             let next =
             ap (λ (t : Seat). t.next) (seat_is xs ws e frames s block read) in
-            period_order faults told moves state b whole_board order number at due true plays_whole whole_heads
+            events_order state b unsignaled number ws false cs events refl
+            (period_order faults told moves state b unsignaled order number at due true plays_whole whole_heads
             (rested_here devices xs ws e frames s block true read plays rested) refl refl refl
             (λ n e found. record { endpoint = e; found = found; flow = refl; format = refl })
             (zip_set_seat b.seats.items b.book.registry.list at
@@ -180,7 +202,14 @@ module _ {D E : Type 0} (faults : D → ℕ) (told : D → Option (List DeviceLo
             (seat_fits xs ws e frames s block read here (s.next + frames) refl refl
             (omega arith))
             due.active.here order.seats)
-            order.book order.room order.seat_room order.draft_room
+            order.book order.room order.seat_room order.draft_room)
+
+        -- what such a period does, and that the board stays in order
+        pub whole_ends : HasFlow flow.Render b.book at → b.book.levels_changed ≡ false →
+            Does faults told moves None AnyData b whole_board (λ st. period_plan st number) hr.S_OK
+            (to_le_bytes w32 frames ++ 0 ∷ [])
+            × InOrder state whole_board
+        whole_ends renders fresh = (whole_does renders fresh, whole_order)
 
     -- the device failed, and this was noted before it
     module _ (devices : D) (xs ws : List (StreamEntry E)) (e : Endpoint) (frames : ℕ) (s : Seat) (block : Block)
@@ -218,15 +247,18 @@ module _ {D E : Type 0} (faults : D → ℕ) (told : D → Option (List DeviceLo
         failed_last : failed_board.book.registry.last ≡ b.book.registry.last
         failed_last = ap (λ (r : EndpointList). r.last) is
 
-        pub failed_does : HasFlow flow.Render b.book at → b.book.levels_changed ≡ false →
+        failed_does : HasFlow flow.Render b.book at → b.book.levels_changed ≡ false →
             Does faults told moves None AnyData b failed_board (λ st. period_plan st number) hr.S_OK
             (to_le_bytes w32 0 ++ 1 ∷ [])
         failed_does renders fresh =
             period_does faults told moves state b failed_board order number at due false plays_failed
             (renders here due.active.here) fresh failed_heads
-            (λ stage tally.
-            ap₂ (λ es last. record (book_state b.book stage tally) { endpoints = es; last_endpoint = last })
-            failed_endpoints failed_last)
+            (λ datas tally.
+            ap₂ (λ es last. record (book_state b.book
+            (stage_with datas failed_board.seats.items failed_board.entries.items) tally) {
+              endpoints = es;
+              last_endpoint = last;
+            }) failed_endpoints failed_last)
             (to_le_bytes w32 0 ++ 1 ∷ []) refl
 
         same_seat : Seats (record { endpoint = s.endpoint; next = s.next; block = block }) here
@@ -236,7 +268,7 @@ module _ {D E : Type 0} (faults : D → ℕ) (told : D → Option (List DeviceLo
             let most = due.seats.next in
             seat_fits xs ws e frames s block read here s.next refl refl (omega arith)
 
-        pub failed_order : InOrder state failed_board
+        failed_order : InOrder state failed_board
         failed_order =
             period_order faults told moves state b failed_board order number at due false plays_failed failed_heads
             (rested_here devices xs ws e frames s block false read plays rested) refl refl refl
@@ -257,3 +289,10 @@ module _ {D E : Type 0} (faults : D → ℕ) (told : D → Option (List DeviceLo
             order.seats)))
             (book_changed number (with_state STATE_NOTPRESENT) (λ e. refl) b.book registry is order.book) order.room
             order.seat_room order.draft_room
+
+        -- what such a period does, and that the board stays in order
+        pub failed_ends : HasFlow flow.Render b.book at → b.book.levels_changed ≡ false →
+            Does faults told moves None AnyData b failed_board (λ st. period_plan st number) hr.S_OK
+            (to_le_bytes w32 0 ++ 1 ∷ [])
+            × InOrder state failed_board
+        failed_ends renders fresh = (failed_does renders fresh, failed_order)

@@ -76,7 +76,7 @@ same_size a b c h k = record {
 rate_some : (rate : ℕ) → is_listed rate ≡ true → 1 ≤ rate
 rate_some rate h = grind (arith, nat_tests)
 
-frames_of_listed : (rate : ℕ) → is_listed rate ≡ true → 1 ≤ frames_of_time rate SHARED_PERIOD
+pub frames_of_listed : (rate : ℕ) → is_listed rate ≡ true → 1 ≤ frames_of_time rate SHARED_PERIOD
 frames_of_listed rate h = let some = rate_some rate h in omega arith
 
 module _ {D E : Type 0} (state : E → EndState) (b : Board D E) (order : InOrder state b) (number at : ℕ)

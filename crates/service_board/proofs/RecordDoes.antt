@@ -81,8 +81,9 @@ module _ {D E : Type 0} (faults : D → ℕ) (told : D → Option (List DeviceLo
     (told b.devices) (faults new.devices) (told new.devices))
     (captures : due.active.endpoint.flow ≡ flow.Capture)
     (heads : map playhead_of new.seats.items ≡ map playhead_of b.seats.items)
-    (book : (stage : Stage) (tally : Tally) → book_state new.book stage tally
-    ≡ machine.after_period due.active.endpoint.no.0 whole (book_state b.book stage tally))
+    (book : (datas : ℕ → BufferData) (tally : Tally) → state_of datas tally new
+    ≡ machine.after_recording due.active.endpoint (flat_map (λ piece. piece) pieces) whole
+    (book_state b.book (stage_with datas new.seats.items new.entries.items) tally))
     (payload : List ℕ)
     (payload_is : payload ≡ period_payload
     (frames_recorded due.active.endpoint (flat_map (λ piece. piece) pieces)) whole)
@@ -125,10 +126,10 @@ module _ {D E : Type 0} (faults : D → ℕ) (told : D → Option (List DeviceLo
           ∙ sym (recorded_stage its_endpoint bytes stage_by rises whole)
 
       state_is : state_of data_then tally_then new
-          ≡ machine.after_period its_endpoint.no.0 whole (plan.moved its_moves (state_of datas tally b))
+          ≡ machine.after_recording its_endpoint bytes whole (plan.moved its_moves (state_of datas tally b))
       state_is =
-          ap (λ stage. book_state new.book stage tally_then) stage_is
-          ∙ book (after_moves stage_by its_moves) tally_then
+          book data_then tally_then
+          ∙ ap (λ stage. machine.after_recording its_endpoint bytes whole (book_state b.book stage tally_then)) stage_is
 
       asked : (if list_any (is_recorded its_endpoint.no.0) b.entries.items then bytes_of its_endpoint else 0)
           ≡ bytes_asked its_endpoint (recording_streams_on its_endpoint.no.0 stage_by)
@@ -151,7 +152,7 @@ module _ {D E : Type 0} (faults : D → ℕ) (told : D → Option (List DeviceLo
           (payload_is
           ∙ ap₂ (λ bs w. period_payload (frames_recorded its_endpoint bs) w) (sym joined) (sym is_w))
           (state_is
-          ∙ ap₂ (λ bs w. machine.after_period its_endpoint.no.0 w
+          ∙ ap₂ (λ bs w. machine.after_recording its_endpoint bs w
           (plan.moved (recording_moves its_endpoint bs w stage_by) st)) (sym joined) (sym is_w))
           (record {
             left = told new.devices;

@@ -1,10 +1,11 @@
 -- The board after a period of an endpoint that captures, whose device gave what it had or failed, or was not asked.
-use Rattle.std.proofs.Common.{◌≡◌, ℕ, ◌≤◌, ◌++◌, List, [], ◌∷◌, map, flat_map, Bool, true, false, Option, Some}
-use Rattle.std.proofs.Common.{Result, Ok, Err, None, refl, sym, ap, ap₂, ◌∙◌, subst}
+use Rattle.std.proofs.Common.{◌≡◌, ℕ, ◌==◌, ◌≤◌, ◌++◌, List, [], ◌∷◌, map, flat_map, Bool, true, false, Option, Some}
+use Rattle.std.proofs.Common.{Result, Ok, Err, None, refl, sym, ap, ap₂, ◌∙◌, subst, if◌then◌else◌, arith}
 use Rattle.std.specs.Int.{w32, to_le_bytes}
 use Rattle.std.specs.List.{All, AllZip, list_any}
 use Rattle.std.specs.Vec.{with_item, with_items}
 use Rattle.std.proofs.Math.Seq.{map-set_same}
+use Rattle.std.proofs.lemmas.Bool.{ne_eqb}
 use Rattle.ca_base.specs.declared.codes.TheConstants.Hr as hr
 use Rattle.ca_base.specs.declared.ids.Flow.TheVariants as flow
 use Rattle.ca_base.specs.declared.ids.Reason.TheVariants.{Removal}
@@ -17,7 +18,11 @@ use Rattle.buffer_ring.specs.declared.step.StoreStep.{StoreStep}
 use Rattle.device_registry.specs.declared.endpoint.Endpoint.{Endpoint}
 use Rattle.device_registry.specs.Endpoints.{EndpointList, with_state}
 use Rattle.device_registry.specs.Changes.{with_changed}
-use Rattle.ca_machine.specs.Periods.{period_frames, period_plan, with_failed}
+use Rattle.ca_stage.specs.Given.{whole_frames}
+use Rattle.ca_stage.specs.Stage.{BufferData, Stage}
+use Rattle.ca_stage.specs.Tally.{Tally}
+use Rattle.ca_machine.specs.declared.state.Client.{Client}
+use Rattle.ca_machine.specs.Periods.{after_recording, period_frames, period_plan, with_events, with_failed}
 use Rattle.ca_machine.proofs.RecordedStage.{recorded}
 use Rattle.step_notices.specs.Notes.{Notes}
 use Rattle.period_engine.specs.declared.entry.StreamEntry.{StreamEntry}
@@ -26,18 +31,22 @@ use Rattle.period_engine.specs.Entries.{IsRested, is_recorded}
 use Rattle.period_engine.specs.Feeds.{Captures}
 use Rattle.period_engine.specs.SubSteps.{Turned}
 use Rattle.service_book.specs.BookState.{book_state}
-use Rattle.service_board.specs.Board.{playhead_of}
+use Rattle.service_board.specs.Board.{playhead_of, stage_with, state_of}
 use Rattle.service_board.specs.Closing.{closes_within}
 use Rattle.service_board.specs.Does.{AnyData, Does}
 use Rattle.service_board.specs.Due.{FindsDue, HasFlow}
+use Rattle.service_board.specs.Events.{with_event}
 use Rattle.service_board.specs.InOrder.{InOrder, Seats}
 use Rattle.service_board.specs.declared.board.Board.{Board}
 use Rattle.service_board.specs.declared.board.Seat.{Seat}
 use Rattle.service_board.proofs.ChangedEndpoints.{book_changed, zip_changed}
+use Rattle.service_board.proofs.EventsSet.{clients_are, clients_then, events_alike, events_order}
 use Rattle.service_board.proofs.PeriodEnds.{Read, channels_here, entries_are, frames_here, seat_fits, seat_is}
+use Rattle.service_board.proofs.PeriodNeeds.{frames_of_listed}
 use Rattle.service_board.proofs.PeriodOrder.{keeps_place, next_stays, order_after, zip_set_seat}
 use Rattle.service_board.proofs.RecordDoes.{Records, record_does}
 use Rattle.service_board.proofs.Recording.{all_fed, all_lost, idle_records, lost_records, none_recorded, whole_records}
+use Rattle.service_board.proofs.Recording.{zero_frames}
 
 -- an entry records an endpoint, as it was looked up
 pub some_read : {E : Type 0} (n : ℕ) (xs ys zs : List (StreamEntry E)) (found : Bool) → xs ≡ zs → ys ≡ zs →
@@ -62,7 +71,11 @@ module _ {D E : Type 0} (faults : D → ℕ) (told : D → Option (List DeviceLo
         record_does faults told moves state b b order number at due true []
         (idle_records moves stays here b.entries.items (faults b.devices) (told b.devices)
         (ap (λ n. list_any (is_recorded n) b.entries.items) due.active.number_is ∙ none))
-        (captures here due.active.here) refl (λ stage tally. refl) (to_le_bytes w32 0 ++ 0 ∷ [])
+        (captures here due.active.here) refl
+        (λ datas tally.
+        ap (λ n. if n == 0 then state_of datas tally b else with_events here.no.0 (state_of datas tally b))
+        (sym (zero_frames here.format.channels due.seats.format.some_channel)))
+        (to_le_bytes w32 0 ++ 0 ∷ [])
         (ap (λ n. to_le_bytes w32 n ++ 0 ∷ []) (sym (none_recorded here due.seats.format.some_channel)))
 
     module _ (devices : D) (xs ws : List (StreamEntry E)) (e : Endpoint) (frames : ℕ) (s : Seat) (block : Block)
@@ -113,9 +126,12 @@ module _ {D E : Type 0} (faults : D → ℕ) (told : D → Option (List DeviceLo
         items_are : (with_items b.entries ws).items ≡ ws
         items_are = entries_are faults told moves state b order number at due xs ws e frames s block read
 
+        some_frame_here : 1 ≤ period_frames here
+        some_frame_here = frames_of_listed here.format.rate due.seats.format.listed_rate
+
         -- the device gave what it had
-        abbrev pub recorded_board : Board D E
-        recorded_board = record b {
+        abbrev unsignaled : Board D E
+        unsignaled = record b {
           devices = devices;
           seats = with_item b.seats at seat_then;
           entries = with_items b.entries ws;
@@ -124,7 +140,13 @@ module _ {D E : Type 0} (faults : D → ℕ) (told : D → Option (List DeviceLo
         module _ (n : ℕ) (some : list_any (is_recorded number) xs ≡ true)
             (gives : Captures moves number frames e.format.channels (Ok n) xs ws (faults b.devices) (told b.devices)
             (faults devices) (told devices))
+            (cs : List Client)
+            (events : cs ≡ (if n == 0 then b.book.clients.items else map (with_event number ws) b.book.clients.items))
           where
+            -- and the clients' events are set, if it gave something
+            abbrev pub recorded_board : Board D E
+            recorded_board = record unsignaled { book = record b.book { clients = clients_then b cs } }
+
             gives_here : Captures moves here.no.0 (period_frames here) here.format.channels (Ok n) b.entries.items
                 recorded_board.entries.items (faults b.devices) (told b.devices) (faults devices) (told devices)
             gives_here =
@@ -138,24 +160,65 @@ module _ {D E : Type 0} (faults : D → ℕ) (told : D → Option (List DeviceLo
                 whole_records moves here b.entries.items order.order (faults b.devices) (faults devices)
                 (told b.devices) (told devices) recorded_board.entries.items n (some_here some) gives_here
 
-            pub recorded_does : Does faults told moves None AnyData b recorded_board (λ st. period_plan st number)
+            abbrev stage_then : (ℕ → BufferData) → Stage
+            stage_then datas = stage_with datas recorded_board.seats.items recorded_board.entries.items
+
+            -- a period records frames if its device gave a whole one
+            some_recorded : (w : Bool) (p : ℕ) → 1 ≤ p → ((if w then 0 else p) == 0) ≡ w
+            some_recorded true p some_frame = refl
+            some_recorded false p some_frame = ne_eqb p 0 (λ e. omega (arith, e))
+
+            events_by : (datas : ℕ → BufferData) (tally : Tally) (w : Bool) →
+                record (book_state b.book (stage_then datas) tally) {
+                  clients = if w then b.book.clients.items else map (with_event number ws) b.book.clients.items;
+                }
+                ≡ (if w then book_state b.book (stage_then datas) tally
+                else with_events here.no.0 (book_state b.book (stage_then datas) tally))
+            events_by datas tally true = refl
+            events_by datas tally false =
+                ap (λ xs. record (book_state b.book (stage_then datas) tally) { clients = xs })
+                (ap₂ (λ k ys. map (with_event k ys) b.book.clients.items) (sym due.active.number_is) (sym items_are)
+                ∙ events_alike here.no.0 datas recorded_board.entries.items b.book.clients.items)
+
+            events_are : (datas : ℕ → BufferData) (tally : Tally) → state_of datas tally recorded_board
+                ≡ after_recording here (flat_map (λ piece. piece) gives_here.pieces) true
+                (book_state b.book (stage_then datas) tally)
+            events_are datas tally =
+                let none = whole_frames here.format.channels (flat_map (λ piece. piece) gives_here.pieces) == 0 in
+                ap (λ xs. record (book_state b.book (stage_then datas) tally) { clients = xs })
+                (clients_are b number ws (n == 0) cs events ∙ events)
+                ∙ ap (λ v. record (book_state b.book (stage_then datas) tally) {
+                  clients = if v then b.book.clients.items else map (with_event number ws) b.book.clients.items;
+                })
+                (ap (λ k. k == 0) gives_here.frames_are ∙ some_recorded none (period_frames here) some_frame_here)
+                ∙ events_by datas tally none
+
+            recorded_does : Does faults told moves None AnyData b recorded_board (λ st. period_plan st number)
                 hr.S_OK (to_le_bytes w32 n ++ 0 ∷ [])
             recorded_does =
                 record_does faults told moves state b recorded_board order number at due true gives_here.pieces records
-                (captures here due.active.here) heads_stay (λ stage tally. refl) (to_le_bytes w32 n ++ 0 ∷ [])
+                (captures here due.active.here) heads_stay events_are (to_le_bytes w32 n ++ 0 ∷ [])
                 (ap (λ k. to_le_bytes w32 k ++ 0 ∷ []) gives_here.frames_are)
 
-            pub recorded_order : All (IsRested state) ws → InOrder state recorded_board
+            recorded_order : All (IsRested state) ws → InOrder state recorded_board
             recorded_order rested =
-                order_after moves state b recorded_board order
+                events_order state b unsignaled number ws (n == 0) cs events refl
+                (order_after moves state b unsignaled order
                 (recorded here (flat_map (λ piece. piece) gives_here.pieces) true) records.steps here.no.0
                 (period_frames here) false records.went
                 (all_fed moves here (flat_map (λ piece. piece) gives_here.pieces) here.no.0 (period_frames here)
-                b.entries.items recorded_board.entries.items gives_here.turned)
-                (next_stays b recorded_board heads_stay here.no.0 (period_frames here))
+                b.entries.items unsignaled.entries.items gives_here.turned)
+                (next_stays b unsignaled heads_stay here.no.0 (period_frames here))
                 (subst (All (IsRested state)) (sym items_are) rested) refl refl refl
                 (λ n e found. record { endpoint = e; found = found; flow = refl; format = refl })
-                seats_stay order.book order.room order.seat_room order.draft_room
+                seats_stay order.book order.room order.seat_room order.draft_room)
+
+            -- what such a period does, and that the board stays in order
+            pub recorded_ends : All (IsRested state) ws →
+                Does faults told moves None AnyData b recorded_board (λ st. period_plan st number) hr.S_OK
+                (to_le_bytes w32 n ++ 0 ∷ [])
+                × InOrder state recorded_board
+            recorded_ends rested = (recorded_does, recorded_order rested)
 
         -- the device failed, and this was noted before it
         module _ (registry : EndpointList)
@@ -200,17 +263,20 @@ module _ {D E : Type 0} (faults : D → ℕ) (told : D → Option (List DeviceLo
             lost_last : lost_board.book.registry.last ≡ b.book.registry.last
             lost_last = ap (λ (r : EndpointList). r.last) is
 
-            pub lost_does : Does faults told moves None AnyData b lost_board (λ st. period_plan st number) hr.S_OK
+            lost_does : Does faults told moves None AnyData b lost_board (λ st. period_plan st number) hr.S_OK
                 (to_le_bytes w32 0 ++ 1 ∷ [])
             lost_does =
                 record_does faults told moves state b lost_board order number at due false fails_here.pieces fails
                 (captures here due.active.here) heads_stay
-                (λ stage tally.
-                ap₂ (λ es last. record (book_state b.book stage tally) { endpoints = es; last_endpoint = last })
-                lost_endpoints lost_last)
+                (λ datas tally.
+                ap₂ (λ es last. record (book_state b.book
+                (stage_with datas lost_board.seats.items lost_board.entries.items) tally) {
+                  endpoints = es;
+                  last_endpoint = last;
+                }) lost_endpoints lost_last)
                 (to_le_bytes w32 0 ++ 1 ∷ []) refl
 
-            pub lost_order : All (IsRested state) ws → InOrder state lost_board
+            lost_order : All (IsRested state) ws → InOrder state lost_board
             lost_order rested =
                 order_after moves state b lost_board order
                 (recorded here (flat_map (λ piece. piece) fails_here.pieces) false) fails.steps here.no.0
@@ -234,3 +300,10 @@ module _ {D E : Type 0} (faults : D → ℕ) (told : D → Option (List DeviceLo
                 seats_stay))
                 (book_changed number (with_state STATE_NOTPRESENT) (λ e. refl) b.book registry is order.book)
                 order.room order.seat_room order.draft_room
+
+            -- what such a period does, and that the board stays in order
+            pub lost_ends : All (IsRested state) ws →
+                Does faults told moves None AnyData b lost_board (λ st. period_plan st number) hr.S_OK
+                (to_le_bytes w32 0 ++ 1 ∷ [])
+                × InOrder state lost_board
+            lost_ends rested = (lost_does, lost_order rested)

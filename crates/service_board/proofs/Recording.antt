@@ -36,7 +36,7 @@ use Rattle.service_board.proofs.WornEntries.{is_here}
 
 -- ---- nothing was given
 
-zero_frames : (channels : ℕ) → 1 ≤ channels → whole_frames channels [] ≡ 0
+pub zero_frames : (channels : ℕ) → 1 ≤ channels → whole_frames channels [] ≡ 0
 zero_frames channels some =
     let block : ℕ = channels * 2 in
     let whole : 0 / block * block ≤ 0 * block = omega (arith, div-mul-le_self 0 block) in

@@ -23,7 +23,8 @@ use Rattle.service_board.specs.Does.{AnyData, Does}
 use Rattle.service_board.specs.declared.board.Board.{Board}
 use Rattle.service_board.proofs.EndpointCalls.{plain_tells}
 use Rattle.service_board.proofs.GrantedEvents.{book_does}
-use Rattle.service_board.proofs.SettingLevels.{Named, leveled_at, leveled_items}
+use Rattle.service_board.proofs.ChangedClients.{Named, changed_items}
+use Rattle.service_board.proofs.SettingLevels.{leveled, leveled_at}
 use Rattle.service_board.proofs.StreamRows.{Opened, own_refused, stream_own}
 
 -- the test of the row of a call that sets a level
@@ -108,6 +109,6 @@ module _ {D E : Type 0} (faults : D → ℕ) (told : D → Option (List DeviceLo
           result_is = sym (ap (λ o. o.result) tells);
           payload_is = sym (ap (λ o. o.payload) tells);
           after_is = ap (λ cs. record st { clients = cs })
-              (leveled_items conn client channel level b.book place c named rises)
+              (changed_items conn client (leveled channel level) b.book.clients.items place c named rises)
               ∙ sym (ap (λ o. o.after) tells);
         })

@@ -9,6 +9,7 @@ pub mod Closing
 pub mod Plays
 pub mod NamedEndpoints
 pub mod Due
+pub mod Events
 pub mod StreamCalls
 pub mod Leaving
 pub mod Openings

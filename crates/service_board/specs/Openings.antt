@@ -16,7 +16,7 @@ use Rattle.ca_machine.specs.declared.state.Connection.{Connection}
 use Rattle.ca_machine.specs.State.{is_client_of, is_connection}
 use Rattle.device_registry.specs.Endpoints.{is_endpoint}
 use Rattle.ca_machine.specs.Data.{dir_of}
-use Rattle.ca_machine.specs.Streams.{initialize_rows, kind_opened, shared_buffer, words_stored}
+use Rattle.ca_machine.specs.Streams.{has_event, initialize_rows, kind_opened, shared_buffer, words_stored}
 use Rattle.period_engine.specs.declared.entry.StreamEntry.{StreamEntry}
 use Rattle.service_book.specs.declared.opening.Opening.{Opening as Asked}
 use Rattle.service_book.specs.declared.opening.OpeningPlan.{OpeningPlan}
@@ -31,7 +31,7 @@ new_entry x plan session store = record {
   endpoint = plan.endpoint;
   kind = plan.kind;
   exclusive = false;
-  event = false;
+  event = plan.event;
   channels = plan.format.channels;
   rate = plan.format.rate;
   buffer = plan.buffer;
@@ -69,6 +69,7 @@ pub record Plans {D E : Type 0} (x : Asked) (b : Board D E) (plan : OpeningPlan)
   pub key : plan.key ≡ key_by x connection plan.endpoint
   pub format : HasFormat endpoint.format x plan.format
   pub kind : plan.kind ≡ kind_opened endpoint.flow x.flags
+  pub event : plan.event ≡ has_event x.flags
   pub buffer : plan.buffer ≡ shared_buffer plan.format.rate x.duration
   pub some_frame : 1 ≤ plan.buffer
   pub words : plan.words ≡ words_stored plan.kind plan.buffer (frames_of_time plan.format.rate SHARED_PERIOD)

@@ -93,6 +93,9 @@ impl<D: Devices, E: EngineSide> Board<D, E> {
             Call::GetDevicePeriod { client } => self.get_device_period(conn, *client),
             Call::Start { client } => self.start(conn, *client),
             Call::Stop { client } => self.stop(conn, *client),
+            Call::SetEventHandle { client, handle } => {
+                self.set_event_handle(conn, *client, *handle)
+            }
             Call::GetService { client, service } => self.get_service(conn, *client, *service),
             Call::GetPosition { client } => self.get_position(conn, *client),
             Call::GetStreamLevel { client, channel } => {

@@ -89,6 +89,8 @@ impl<D: Devices, E: EngineSide> Board<D, E> {
             endpoint,
             role,
             levels: [MAX_LEVEL; 4],
+            handle: 0,
+            flagged: false,
         };
         match self.book.clients.push(client) {
             Ok(()) => {

@@ -3,8 +3,8 @@
 
 ghost use Rattle.std.specs.Prelude.{◌≡◌, IfErr, IfOk, None, Some, filter, not};
 ghost use Rattle.std.specs.Vec.{vec_capacity};
-ghost use Rattle.ca_machine.specs.Devices.{missing_rows, remove_plan, set_default_plan, set_format_plan, set_name_plan};
-ghost use Rattle.ca_machine.specs.Devices.{set_state_plan, shutdown_plan};
+ghost use Rattle.ca_machine.specs.Devices.{missing_rows, remove_plan, set_default_plan, set_exclusive_plan};
+ghost use Rattle.ca_machine.specs.Devices.{set_format_plan, set_name_plan, set_state_plan, shutdown_plan};
 ghost use Rattle.ca_machine.specs.Step.{device_plan};
 ghost use Rattle.reply_payload.specs.Answers.{code_of, payload_of};
 ghost use Rattle.service_board.specs.Does.{AnyData, Does};
@@ -21,7 +21,8 @@ use device_io::Devices;
 use period_engine::Block;
 use reply_payload::Payload;
 use service_book::{
-    is_text, is_wrong_choice, leaves_active, matches, period_frames, with_format, with_name,
+    is_text, is_wrong_choice, is_wrong_use, leaves_active, matches, period_frames, with_exclusive,
+    with_format, with_name,
 };
 use std::alloc::Global;
 use wave_format::{Format, read_format};
@@ -113,6 +114,27 @@ impl<D: Devices, E: EngineSide> Board<D, E> {
         Ok(Payload::Nothing)
     }
 
+    /// Sets whether an endpoint may be used by one stream alone, and whether that takes precedence over shared streams: 0
+    /// or 1 each. A stream that is there stays.
+    ///
+    /// Errors: those of the look-up, E_INVALIDARG for another value.
+    pub fn set_exclusive(&mut self, e: EndpointNo, allow: u8, priority: u8) -> Result<Payload, Hr>
+        requires order { InOrder E.state self.old }
+        ensures does { Does D.faults D.told E.moves None AnyData self.old self.new
+            (λ st. set_exclusive_plan st e.0 allow priority) (code_of result) (payload_of result) }
+        ensures order { InOrder E.state self.new }
+    {
+        let at = self.named_endpoint(e)?;
+        if is_wrong_use(allow, priority) {
+            return Err(Hr::E_INVALIDARG);
+        }
+        let endpoint = with_exclusive(&self.book.registry.endpoints()[at], allow, priority);
+        let Ok(()) = self.book.registry.replace(endpoint) else {
+            unreachable!();
+        };
+        Ok(Payload::Nothing)
+    }
+
     /// Gives an endpoint another name (PKEY_Device_FriendlyName).
     ///
     /// Errors: those of the look-up, E_INVALIDARG if the name is no UTF-8.
@@ -192,6 +214,11 @@ impl<D: Devices, E: EngineSide> Board<D, E> {
                 role,
                 endpoint,
             } => self.set_default(*flow, *role, *endpoint),
+            DeviceEvent::SetExclusive {
+                endpoint,
+                allow,
+                priority,
+            } => self.set_exclusive(*endpoint, *allow, *priority),
             DeviceEvent::SetName { endpoint, name } => self.set_name(*endpoint, name),
             DeviceEvent::Other { .. } => self.unlisted_event(),
         }

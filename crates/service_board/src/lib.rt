@@ -9,6 +9,7 @@ mod closing;
 mod device_events;
 mod endpoint_data;
 mod endpoints;
+mod events;
 mod formats;
 mod gains;
 mod initialize;

@@ -14,11 +14,13 @@ ghost use Rattle.service_board.specs.Lookups.{Says};
 ghost use Rattle.service_board.specs.Telling.{NotesFailure};
 
 use crate::Board;
+use crate::events::{set_events, set_recorded_events};
 use crate::plays::{close_failed, play};
 use buffer_ring::EngineSide;
 use ca_base::limits::{MAX_COUNT, MAX_LEVEL};
 use ca_base::values::{STATE_ACTIVE, STATE_NOTPRESENT};
 use ca_base::{EndpointNo, Failed, Flow, Hr};
+use ca_machine::Client;
 use device_io::Devices;
 use device_registry::Endpoint;
 use period_engine::{StreamEntry, feed_capture, feed_loopback, retire};
@@ -124,6 +126,8 @@ impl<D: Devices, E: EngineSide> Board<D, E> {
                 retire(entries, e);
                 feed_loopback(entries, e, frames, &mut seat.block);
                 seat.next += frames as u64;
+                let clients: &mut [Client] = &mut self.book.clients;
+                set_events(clients, entries, e);
                 Ok(Payload::Period {
                     frames,
                     failed: false,
@@ -173,10 +177,14 @@ impl<D: Devices, E: EngineSide> Board<D, E> {
             &mut seat.block,
             &mut self.devices,
         ) {
-            Ok(frames) => Ok(Payload::Period {
-                frames,
-                failed: false,
-            }),
+            Ok(frames) => {
+                let clients: &mut [Client] = &mut self.book.clients;
+                set_recorded_events(clients, entries, e, frames);
+                Ok(Payload::Period {
+                    frames,
+                    failed: false,
+                })
+            }
             Err(Failed) => {
                 close_failed(entries, e, &self.book, &mut self.failed);
                 let Ok(()) = self.book.registry.set_state(e, STATE_NOTPRESENT) else {

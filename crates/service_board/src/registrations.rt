@@ -12,8 +12,10 @@ ghost use Rattle.service_board.specs.InOrder.{InOrder};
 ghost use Rattle.service_board.specs.Lookups.{FindsNotices, Says};
 
 use crate::Board;
+use crate::events::take_events;
 use buffer_ring::EngineSide;
 use ca_base::{Bytes, ConnNo, Hr};
+use ca_machine::Client;
 use device_io::Devices;
 use event_notices::NoticeFault;
 use reply_payload::{Payload, REPLY_ROOM, put_notices};
@@ -77,9 +79,9 @@ impl<D: Devices, E: EngineSide> Board<D, E> {
         Ok(Payload::Nothing)
     }
 
-    /// Takes the first notices that a connection keeps, `max` at most, and puts them, with how many were lost before
-    /// them. The payload is empty before and has taken memory for the longest one. It is answered after a shutdown too,
-    /// and takes no memory.
+    /// Takes the events of a connection's clients that were set, and the first notices that it keeps, `max` at most,
+    /// and puts them, with how many notices were lost before them. The payload is empty before and has taken memory for
+    /// the longest one. It is answered after a shutdown too, and takes no memory.
     ///
     /// Errors: E_HANDLE if the connection isn't open.
     pub fn take_notices(&mut self, conn: ConnNo, max: u32, out: &mut Bytes) -> Result<(), Hr>
@@ -95,7 +97,9 @@ impl<D: Devices, E: EngineSide> Board<D, E> {
         let at = self.known_notices(conn)?;
         self.drafts.clear();
         let lost = self.book.notices[at].take(max, &mut self.drafts);
-        put_notices(lost, &self.drafts, out);
+        let clients: &mut [Client] = &mut self.book.clients;
+        put_notices(clients, conn, lost, &self.drafts, out);
+        take_events(clients, conn);
         Ok(())
     }
 }

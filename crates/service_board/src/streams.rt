@@ -1,6 +1,6 @@
 //! Control calls of a client's open stream (IAudioClient, IAudioClock).
 
-ghost use Rattle.std.specs.Prelude.{◌≡◌, ◌+◌, ◌≤◌, if◌then◌else◌, None};
+ghost use Rattle.std.specs.Prelude.{◌≡◌, ◌+◌, ◌==◌, ◌&&◌, ◌≤◌, if◌then◌else◌, None};
 ghost use Rattle.ca_base.specs.declared.ids.Gate.TheVariants as gate;
 ghost use Rattle.ca_machine.specs.Streams.{get_buffer_size_plan, get_stream_latency_plan, get_position_plan};
 ghost use Rattle.ca_machine.specs.Streams.{get_service_plan, position_of, reset_plan, start_plan, stop_plan};
@@ -15,6 +15,7 @@ ghost use Rattle.service_board.specs.StreamCalls.{Empties, IsKnown};
 use crate::Board;
 use buffer_ring::EngineSide;
 use ca_base::{ClientNo, ConnNo, Hr, StreamKind};
+use ca_machine::Client;
 use device_io::Devices;
 use period_engine::StreamEntry;
 use reply_payload::Payload;
@@ -62,6 +63,13 @@ fn empty<E: EngineSide>(entry: &mut StreamEntry<E>) -> bool
     entry.offered = 0;
     entry.after_gap = false;
     true
+}
+
+/// Whether a stream is driven by events, and its client has set no handle.
+fn lacks_handle<E>(entry: &StreamEntry<E>, client: &Client) -> bool
+    ensures { result ≡ (entry.now.event && client.now.handle == 0) }
+{
+    entry.event && client.handle == 0
 }
 
 impl<D: Devices, E: EngineSide> Board<D, E> {
@@ -115,15 +123,22 @@ impl<D: Devices, E: EngineSide> Board<D, E> {
     }
 
     /// IAudioClient::Start.
+    ///
+    /// Errors: AUDCLNT_E_NOT_STOPPED if the stream runs, AUDCLNT_E_EVENTHANDLE_NOT_SET if it is driven by events and its
+    /// client set no handle.
     pub fn start(&mut self, conn: ConnNo, client: ClientNo) -> Result<Payload, Hr>
         requires order { InOrder E.state self.old }
         ensures does { Does D.faults D.told E.moves None AnyData self.old self.new
             (λ st. start_plan st conn.0 client.0) (code_of result) (payload_of result) }
         ensures order { InOrder E.state self.new }
     {
+        let place = self.control_client(conn, client)?;
         let at = self.open_stream(conn, client)?;
         if self.entries[at].running {
             return Err(Hr::NOT_STOPPED);
+        }
+        if lacks_handle(&self.entries[at], &self.book.clients[place]) {
+            return Err(Hr::EVENTHANDLE_NOT_SET);
         }
         self.entries[at].running = true;
         Ok(Payload::Nothing)

@@ -2,7 +2,7 @@
 
 ghost use Rattle.std.specs.Prelude.{◌≡◌, ◌||◌, not, nat_le, nat_lt, Some};
 ghost use Rattle.std.specs.Str.{is_utf8};
-ghost use Rattle.ca_machine.specs.Devices.{is_wrong_choice, leaves_active, with_name};
+ghost use Rattle.ca_machine.specs.Devices.{is_wrong_choice, leaves_active, with_exclusive, with_name};
 ghost use Rattle.ca_machine.specs.Periods.{period_frames};
 
 use crate::Book;
@@ -52,6 +52,28 @@ pub fn with_format(e: &Endpoint, format: Format) -> Endpoint
         name: e.name,
         allow: e.allow,
         priority: e.priority,
+    }
+}
+
+/// Whether what is said of exclusive use is neither 0 nor 1.
+pub fn is_wrong_use(allow: u8, priority: u8) -> bool
+    ensures { result ≡ (nat_lt 1 allow || nat_lt 1 priority) }
+{
+    allow > 1 || priority > 1
+}
+
+/// An endpoint of which another thing is said of exclusive use: 0 or 1 each.
+pub fn with_exclusive(e: &Endpoint, allow: u8, priority: u8) -> Endpoint
+    ensures { result ≡ with_exclusive allow priority e.now }
+{
+    Endpoint {
+        no: e.no,
+        flow: e.flow,
+        state: e.state,
+        format: e.format,
+        name: e.name,
+        allow: allow == 1,
+        priority: priority == 1,
     }
 }
 

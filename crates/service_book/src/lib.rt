@@ -23,7 +23,8 @@ pub use endpoint_data::{
     flow_of, is_wrong_default, is_wrong_enumeration, number_named, put_matching,
 };
 pub use endpoints::{
-    is_text, is_wrong_choice, leaves_active, period_frames, with_format, with_name,
+    is_text, is_wrong_choice, is_wrong_use, leaves_active, period_frames, with_exclusive,
+    with_format, with_name,
 };
 pub use formats::support;
 pub use gains::gains_in;

@@ -5,7 +5,7 @@ ghost use Rattle.std.specs.Result.{result_err};
 ghost use Rattle.ca_base.specs.declared.limits.TheConstants.{MAX_STORE_WORDS};
 ghost use Rattle.ca_base.specs.Rows.{first};
 ghost use Rattle.wave_format.specs.Format.{frames_of_time, is_listed};
-ghost use Rattle.ca_machine.specs.Streams.{has_later_flag, has_loopback, has_other_flag, is_cross_process, is_kept};
+ghost use Rattle.ca_machine.specs.Streams.{has_event, has_loopback, has_other_flag, is_cross_process, is_kept};
 ghost use Rattle.ca_machine.specs.Streams.{kind_opened, later_rows, matches, shared_buffer, words_stored};
 ghost use Rattle.service_book.specs.Openings.{HasFormat, argument_rows, arguments, flow_rows, format_rows, key_by};
 
@@ -47,6 +47,8 @@ pub struct OpeningPlan {
     pub endpoint: EndpointNo,
     pub format: Format,
     pub kind: StreamKind,
+    /// Whether the stream's periods set an event.
+    pub event: bool,
     /// The frames of the buffer, and the words of its store.
     pub buffer: u32,
     pub words: u32,
@@ -54,9 +56,9 @@ pub struct OpeningPlan {
     pub key: SessionKey,
 }
 
-/// Whether flags of later parts of the service are set.
-fn has_later_flag(flags: u32) -> bool
-    ensures { result ≡ has_later_flag flags }
+/// Whether the stream's periods set an event.
+fn has_event(flags: u32) -> bool
+    ensures { result ≡ has_event flags }
 {
     flags / STREAM_EVENTCALLBACK % 2 != 0
 }
@@ -136,7 +138,7 @@ impl<'a> Opening<'a> {
     pub fn check_later(&self) -> Result<(), Hr>
         ensures { first (later_rows (arguments self.now)) ≡ result_err result }
     {
-        if self.share == SHARE_EXCLUSIVE || has_later_flag(self.flags) {
+        if self.share == SHARE_EXCLUSIVE {
             return Err(Hr::E_NOTIMPL);
         }
         Ok(())
@@ -164,6 +166,13 @@ impl<'a> Opening<'a> {
             return Err(Hr::WRONG_ENDPOINT_TYPE);
         }
         Ok(())
+    }
+
+    /// Whether the periods of its stream set an event.
+    pub fn is_event_driven(&self) -> bool
+        ensures { result ≡ has_event self.now.flags }
+    {
+        has_event(self.flags)
     }
 
     /// The kind of stream that is opened on an endpoint of this flow.

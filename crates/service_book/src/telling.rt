@@ -16,8 +16,8 @@ use ca_base::{EndpointNo, Guid, SessionNo, Text};
 use ca_model::{Call, DeviceEvent, Event};
 use event_notices::Notice;
 use event_notices::kinds::{
-    CHANNEL_VOLUME, DEVICE_PROPERTY, DISPLAY_NAME, GROUPING, ICON_PATH, PROPERTY_FORMAT,
-    PROPERTY_NAME, SIMPLE_VOLUME,
+    CHANNEL_VOLUME, DEVICE_PROPERTY, DISPLAY_NAME, GROUPING, ICON_PATH, PROPERTY_EXCLUSIVE,
+    PROPERTY_FORMAT, PROPERTY_NAME, SIMPLE_VOLUME,
 };
 use session_manager::{Session, guid_text};
 use step_notices::{Noted, put_device_notices, put_session_notices};
@@ -46,6 +46,9 @@ fn put_property(ev: &Event, out: &mut Vec<Notice>)
         Event::Device {
             event: DeviceEvent::SetFormat { endpoint, .. },
         } => out.push_reserved(property_note(*endpoint, PROPERTY_FORMAT)),
+        Event::Device {
+            event: DeviceEvent::SetExclusive { endpoint, .. },
+        } => out.push_reserved(property_note(*endpoint, PROPERTY_EXCLUSIVE)),
         Event::Device {
             event: DeviceEvent::SetName { endpoint, .. },
         } => out.push_reserved(property_note(*endpoint, PROPERTY_NAME)),

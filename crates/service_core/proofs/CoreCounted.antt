@@ -24,7 +24,7 @@ use Rattle.reply_payload.specs.declared.payload.Payload.TheVariants as payloads
 use Rattle.service_board.specs.declared.board.Board.{Board}
 use Rattle.service_core.specs.BothEnds.{MovesStore}
 use Rattle.service_core.specs.Core.{Goes, GoesTo, LooksAround, core_datas, core_state, words_in}
-use Rattle.service_core.specs.Counting.{after_taking, more_dropped, more_reset}
+use Rattle.service_core.specs.Counting.{HasCounts, after_taking, more_dropped, more_reset}
 use Rattle.service_core.specs.Service.{IsCore}
 use Rattle.service_core.specs.declared.both_ends.BothEnds.{BothEnds}
 use Rattle.service_core.specs.declared.pending.Streams.TheVariants as streams
@@ -117,7 +117,7 @@ module _ {D F : Type 0} (faults : D → ℕ) (told : D → Option (List DeviceLo
       (goes_reset faults told kept plan answer payload tally old new (goes tally)
       (were (rises kept state old tally old_core.order))))
 
-  pub counted_dropped : (tally : Tally) →
+  counted_dropped : (tally : Tally) →
       (RisesFrom 0 (clients (comes tally).stage) → AreGone (live_clients old.book.clients.items) (comes tally).stage →
       (given : List Answer) → WereDropped (comes tally) (ends tally given).after) →
       GoesTo faults told kept plan answer payload tally (more_dropped more tally) first last
@@ -126,6 +126,15 @@ module _ {D F : Type 0} (faults : D → ℕ) (told : D → Option (List DeviceLo
       (subst (λ n. GoesTo faults told kept plan answer payload tally (more_dropped n tally) old new) (taken_is tally)
       (goes_dropped faults told kept plan answer payload tally old new (goes tally)
       (were (rises kept state old tally old_core.order) (gone kept state old tally old_core.order))))
+
+  -- both, for every tally: what it does, and that the service is in order after it
+  pub dropped_ends : ((tally : Tally) → HasCounts tally →
+      RisesFrom 0 (clients (comes tally).stage) → AreGone (live_clients old.book.clients.items) (comes tally).stage →
+      (given : List Answer) → WereDropped (comes tally) (ends tally given).after) →
+      ((tally : Tally) → HasCounts tally → GoesTo faults told kept plan answer payload tally (more_dropped more tally)
+      first last)
+      × IsCore state kept last
+  dropped_ends were = (λ tally fits. counted_dropped tally (were tally fits), counted_core)
 
   -- an event that took nothing from the tally
   pub counted_still : (tally : Tally) →

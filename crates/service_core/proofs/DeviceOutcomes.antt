@@ -73,6 +73,8 @@ module _ (st : State) (rises : RisesFrom 0 (clients st.stage)) (fits : HasCounts
       (named_drops (endpoint_at e.0 st) (with_endpoint_format st e.0 format.list)
       (λ d. drops_if (not (matches d.format (spelled format.list))) Format (Some e.0))))
   device_outcome (device.SetDefault flow role e) given = dropped_unless st rises fits _ _ (none_dropped st rises fits)
+  device_outcome (device.SetExclusive e allow priority) given =
+      dropped_unless st rises fits _ _ (none_dropped st rises fits)
   device_outcome (device.SetName e name) given = dropped_unless st rises fits _ _ (none_dropped st rises fits)
   device_outcome (device.Other code rest) given = dropped_unless st rises fits _ _ (none_dropped st rises fits)
 

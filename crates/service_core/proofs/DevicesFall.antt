@@ -48,6 +48,7 @@ keeps_device st (device.SetFormat e format) =
     (disconnects_if (not (matches d.format (spelled format.list))) Format (Some e.0) st.stage)
     (if_control (not (matches d.format (spelled format.list))) Format (Some e.0) st.stage)))
 keeps_device st (device.SetDefault flow role e) = keeps_plain st _ _ (all_still st.stage)
+keeps_device st (device.SetExclusive e allow priority) = keeps_plain st _ _ (all_still st.stage)
 keeps_device st (device.SetName e name) = keeps_plain st _ _ (all_still st.stage)
 keeps_device st (device.Other code rest) = keeps_plain st _ _ (all_still st.stage)
 

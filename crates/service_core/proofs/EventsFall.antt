@@ -30,11 +30,11 @@ use Rattle.ca_machine.specs.Clients.{closes, leaving, hangup_plan, is_client_on,
 use Rattle.ca_machine.specs.Endpoints.{default_at, endpoint_named, endpoint_told, number_told}
 use Rattle.ca_machine.specs.Streams.{Opening, endpoint_channels, flow_of, initialized, is_kept, joined_by, new_stream}
 use Rattle.ca_machine.specs.Streams.{position_of, session_key, stream_level, supported, is_faulty, matches}
-use Rattle.ca_machine.specs.Streams.{format_payload, with_stream_level}
+use Rattle.ca_machine.specs.Streams.{format_payload, with_handle, with_stream_level}
 use Rattle.ca_machine.specs.Data.{next_packet_size}
 use Rattle.ca_machine.specs.Sessions.{session_payload, state_of_session, with_session}
-use Rattle.ca_machine.specs.Periods.{after_period, mixing_of, period_by, period_frames, period_of, period_rows}
-use Rattle.ca_machine.specs.Periods.{recording, recording_moves, sounding}
+use Rattle.ca_machine.specs.Periods.{after_period, after_recording, mixing_of, period_by, period_frames, period_of}
+use Rattle.ca_machine.specs.Periods.{period_rows, recording, recording_moves, sounding}
 use Rattle.ca_machine.specs.Step.{call_plan, plan}
 use Rattle.ca_machine.proofs.PeriodMoves.{OfSubSteps, captures_all, sub_steps_all}
 use Rattle.service_core.proofs.DevicesFall.{keeps_device, keeps_shutdown}
@@ -95,6 +95,15 @@ lost_control : (left : List Stream) → AllByRecursion IsControl (map (λ s. of_
 lost_control [] = tt
 lost_control (s ∷ left) = (tt, lost_control left)
 
+of_recorded : (e : Endpoint) (bytes : List ℕ) (whole : Bool) (st after : State) → AllFell st.stage after.stage →
+    AllFell st.stage (after_recording e bytes whole after).stage
+of_recorded e bytes true st after h = by (whole_frames e.format.channels bytes == 0)
+  where
+    by : (b : Bool) → AllFell st.stage (if b then after else after_period e.no.0 true after).stage
+    by true = h
+    by false = h
+of_recorded e bytes false st after h = h
+
 recording_control : (e : Endpoint) (bytes : List ℕ) (whole : Bool) (st : Stage) →
     AllByRecursion IsControl (recording_moves e bytes whole st)
 recording_control e bytes true st =
@@ -104,7 +113,7 @@ recording_control e bytes false st = lost_control (open_streams_on e.no.0 st)
 
 of_record : (st : State) (e : Endpoint) (given : List Answer) → Leaves st (recording st e given)
 of_record st e given =
-    of_failed e.no.0 (is_whole given) st
+    of_recorded e (bytes_given given) (is_whole given) st
     (moved (recording_moves e (bytes_given given) (is_whole given) st.stage) st)
     (all_moved st.stage (recording_moves e (bytes_given given) (is_whole given) st.stage)
     (recording_control e (bytes_given given) (is_whole given) st.stage))
@@ -184,6 +193,8 @@ of_call st conn (call.GetDevicePeriod c) control = keeps_plain st _ _ (all_still
 of_call st conn (call.Start c) control = keeps_moves st _ (stream_at c.0 st.stage) c.0 started tt
 of_call st conn (call.Stop c) control = keeps_moves st _ (stream_at c.0 st.stage) c.0 stopped tt
 of_call st conn (call.Reset c) control = keeps_moves st _ (stream_at c.0 st.stage) c.0 reset tt
+of_call st conn (call.SetEventHandle c handle) control = keeps_still st _ (stream_at c.0 st.stage)
+    (record st { clients = with_handle conn c.0 handle st.clients }) (all_still st.stage)
 of_call st conn (call.GetService c service) control = keeps_tells st _ (stream_at c.0 st.stage) (λ s. [])
 of_call st conn (call.GetPosition c) control = keeps_tells st _ (stream_at c.0 st.stage)
     (λ s. to_le_bytes w64 (position_of s) ++ to_le_bytes w64 s.rate)

@@ -1,7 +1,7 @@
 -- What outcomes do to the tally: a Reset, clients that leave, and a period count by how much fewer frames are pending
 -- in open streams.
-use Rattle.std.proofs.Common.{◌≡◌, ℕ, ◌-◌, ◌++◌, not, List, [], ◌∷◌, filter, Bool, true, false, Option, Some, None}
-use Rattle.std.proofs.Common.{refl, sym, ap, subst, ◌∙◌, arith, get_or, if◌then◌else◌}
+use Rattle.std.proofs.Common.{◌≡◌, ℕ, ◌-◌, ◌==◌, ◌++◌, not, List, [], ◌∷◌, filter, Bool, true, false, Option, Some}
+use Rattle.std.proofs.Common.{None, refl, sym, ap, subst, ◌∙◌, arith, get_or, if◌then◌else◌}
 use Rattle.std.specs.Int.{w32, to_le_bytes}
 use Rattle.ca_base.specs.declared.codes.Hr.{Hr}
 use Rattle.ca_base.specs.declared.codes.TheConstants.Hr as hr
@@ -24,8 +24,10 @@ use Rattle.ca_machine.specs.Plan.{moved}
 use Rattle.ca_machine.specs.SharedRows.{with_stream}
 use Rattle.ca_machine.specs.Clients.{closes, hangup_plan, is_client_on, leaving, release_plan, without_connection}
 use Rattle.ca_machine.specs.Streams.{reset_plan}
-use Rattle.ca_machine.specs.Periods.{after_period, frames_recorded, mixing_of, period_by, period_frames, period_of}
-use Rattle.ca_machine.specs.Periods.{period_payload, period_plan, period_rows, recording, recording_moves, sounding}
+use Rattle.ca_stage.specs.Given.{whole_frames}
+use Rattle.ca_machine.specs.Periods.{after_period, after_recording, frames_recorded, mixing_of, period_by}
+use Rattle.ca_machine.specs.Periods.{period_frames, period_of, period_payload, period_plan, period_rows, recording}
+use Rattle.ca_machine.specs.Periods.{recording_moves, sounding}
 use Rattle.ca_machine.proofs.LiveClients.{gone_left}
 use Rattle.ca_machine.proofs.ClosesOfClients.{closes_are}
 use Rattle.service_core.specs.Counting.{HasCounts}
@@ -140,8 +142,18 @@ module _ (st : State) (rises : RisesFrom 0 (clients st.stage)) (fits : HasCounts
   sounds m false = failed_counts m st.stage st.tally rises fits.dropped
 
   records : (e : Endpoint) (bytes : List ℕ) (whole : Bool) →
-      WereTaken (not whole) st (after_period e.no.0 whole (moved (recording_moves e bytes whole st.stage) st))
-  records e bytes true = recorded_counts e bytes st.stage st.tally rises fits.rendered
+      WereTaken (not whole) st (after_recording e bytes whole (moved (recording_moves e bytes whole st.stage) st))
+  records e bytes true =
+      signaled (whole_frames e.format.channels bytes == 0)
+      (recorded_counts e bytes st.stage st.tally rises fits.rendered)
+    where
+      after : State
+      after = moved (recording_moves e bytes true st.stage) st
+
+      signaled : (b : Bool) → WereTaken false st after →
+          WereTaken false st (if b then after else after_period e.no.0 true after)
+      signaled true h = h
+      signaled false h = h
   records e bytes false = lost_counts e bytes st.stage st.tally rises fits.dropped
 
   -- an outcome whose payload is that of a period of so many frames

@@ -24,7 +24,7 @@ use Rattle.ca_machine.specs.Endpoints.{default_at, device_info_plan, endpoint_na
 use Rattle.ca_machine.specs.Endpoints.{number_told}
 use Rattle.ca_machine.specs.Registrations.{take_notices_plan}
 use Rattle.ca_machine.specs.Streams.{Opening, initialize_plan, initialized, supported, is_faulty, matches}
-use Rattle.ca_machine.specs.Streams.{format_payload, with_stream_level}
+use Rattle.ca_machine.specs.Streams.{format_payload, with_handle, with_stream_level}
 use Rattle.ca_machine.specs.Sessions.{enum_sessions_plan, get_session_plan, session_payload, state_of_session}
 use Rattle.ca_machine.specs.Sessions.{with_session}
 use Rattle.ca_machine.specs.Data.{capture_get_buffer_plan, capture_release_buffer_plan, first_packet, frames_released}
@@ -155,6 +155,8 @@ tally_of_call st conn (call.Start c) h =
 tally_of_call st conn (call.Stop c) h =
     moves st _ (stream_at c.0 st.stage) c.0 (λ s. []) (λ s. stopped) (λ s r t. refl)
 tally_of_call st conn (call.Reset c) h = absurd h
+tally_of_call st conn (call.SetEventHandle c handle) h = still st _ (stream_at c.0 st.stage)
+    (record st { clients = with_handle conn c.0 handle st.clients }) refl
 tally_of_call st conn (call.GetService c service) h = tells st _ (stream_at c.0 st.stage) _
 tally_of_call st conn (call.GetPosition c) h = tells st _ (stream_at c.0 st.stage) _
 tally_of_call st conn (call.GetStreamLevel c channel) h = tells st _ (stream_at c.0 st.stage) _

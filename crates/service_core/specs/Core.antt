@@ -165,7 +165,7 @@ abbrev pub new_side : OpeningPlan → ClientSide
 new_side plan = record {
   dir = dir_of plan.kind;
   exclusive = false;
-  event = false;
+  event = plan.event;
   buffer = plan.buffer;
   period = frames_of_time plan.format.rate SHARED_PERIOD;
   store_frames = plan.words;

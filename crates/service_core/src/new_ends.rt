@@ -31,7 +31,7 @@ fn new_side(plan: &OpeningPlan) -> ClientSide
     ClientSide {
         dir: dir_of(plan.kind),
         exclusive: false,
-        event: false,
+        event: plan.event,
         buffer: plan.buffer,
         period: shared_period(plan.format.rate),
         store_frames: plan.words,

@@ -1,7 +1,7 @@
 use Rattle.std.proofs.Common.{◌≡◌}
 use Rattle.event_notices.specs.Notices.{pushed_all}
-use Rattle.period_engine.proofs.Passes.{Alone, all_passed, all_zip, none_passed, one_passed}
-use Rattle.service_board.proofs.Tellings.{mapped_zip}
+use Rattle.period_engine.proofs.Passes.{Alone, none_passed, one_passed}
+use Rattle.service_board.proofs.Tellings.{mapped}
 use Rattle.service_board.proofs.telling.push_to_each.Goals as goal
 
 pub loop-q-init : goal.loop-q-init
@@ -14,6 +14,5 @@ loop-q-preserved c =
 
 pub returns : goal.returns
 returns c =
-    mapped_zip (pushed_all c.args.ns.now) c.args.queues.now c.loop-q.queues
-    (all_zip (λ a b. b ≡ pushed_all c.args.ns.now a) (λ a b. b ≡ pushed_all c.args.ns.now a) (λ a b h. h)
-    c.args.queues.now c.loop-q.queues 0 0 (all_passed c.loop-q.invariant c.loop-q-test.false c.loop-q.auto.queues))
+    mapped (pushed_all c.args.ns.now) c.args.queues.now c.loop-q.queues c.loop-q.q-index c.loop-q.invariant
+    c.loop-q-test.false c.loop-q.auto.queues

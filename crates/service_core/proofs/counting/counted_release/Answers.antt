@@ -4,7 +4,7 @@ use Rattle.ca_machine.specs.Clients.{release_plan}
 use Rattle.service_board.specs.Does.{AnyData}
 use Rattle.reply_payload.specs.Answers.{code_of, payload_of}
 use Rattle.service_core.specs.Core.{core_state}
-use Rattle.service_core.proofs.CoreCounted.{counted_core, counted_dropped}
+use Rattle.service_core.proofs.CoreCounted.{dropped_ends}
 use Rattle.service_core.proofs.EventsFall.{keeps_event}
 use Rattle.service_core.proofs.TallyOutcomes.{release_outcome}
 use Rattle.service_core.proofs.PendingWords.{around_order}
@@ -16,9 +16,10 @@ release-answer-requires g c = record {
       c.pending-before.new.board c.pending-before.ensures.looked c.requires.order;
 }
 
-pub returns-clause-core : goal.returns-clause-core
-returns-clause-core g c =
-    counted_core g.D.Devices.faults g.D.Devices.told g.F.FrameStore.kept g.F.EngineSide.state
+pub returns : goal.returns
+returns g c =
+    let ends =
+    dropped_ends g.D.Devices.faults g.D.Devices.told g.F.FrameStore.kept g.F.EngineSide.state
     g.met.F.FrameStore.whole g.F.EngineSide.moves g.met.F.FrameStore.exact c.args.board.now c.pending-before.new.board
     c.release-answer.new.self c.fewer_than.new.board c.pending-before.ensures.looked c.fewer_than.ensures.looked
     c.requires c.release-answer.ensures.order c.pending-before.result c.fewer_than.result
@@ -26,17 +27,6 @@ returns-clause-core g c =
     (λ st. release_plan st c.args.conn.0 c.args.client.0) (code_of c.release-answer.result)
     (payload_of c.release-answer.result) c.release-answer.ensures.does
     (tt) (λ st. keeps_event st (event.Call c.args.conn 0 (call.Release c.args.client)) tt)
-
-pub returns-clause-goes : goal.returns-clause-goes
-returns-clause-goes g c tally fits =
-    counted_dropped g.D.Devices.faults g.D.Devices.told g.F.FrameStore.kept g.F.EngineSide.state
-    g.met.F.FrameStore.whole g.F.EngineSide.moves g.met.F.FrameStore.exact c.args.board.now c.pending-before.new.board
-    c.release-answer.new.self c.fewer_than.new.board c.pending-before.ensures.looked c.fewer_than.ensures.looked
-    c.requires c.release-answer.ensures.order c.pending-before.result c.fewer_than.result
-    c.pending-before.ensures.count c.fewer_than.ensures.fewer (AnyData)
-    (λ st. release_plan st c.args.conn.0 c.args.client.0) (code_of c.release-answer.result)
-    (payload_of c.release-answer.result) c.release-answer.ensures.does
-    (tt) (λ st. keeps_event st (event.Call c.args.conn 0 (call.Release c.args.client)) tt)
-    tally
-    (λ rise gone. release_outcome (core_state g.F.FrameStore.kept tally c.pending-before.new.board) rise fits gone
-    c.args.conn.0 c.args.client.0)
+    (λ tally fits rise gone. release_outcome (core_state g.F.FrameStore.kept tally c.pending-before.new.board) rise fits gone
+    c.args.conn.0 c.args.client.0) in
+    record { goes = ends.0; core = ends.1 }

@@ -2,7 +2,7 @@ use Rattle.ca_machine.specs.Devices.{shutdown_plan}
 use Rattle.service_board.specs.Does.{AnyData}
 use Rattle.reply_payload.specs.Answers.{code_of, payload_of}
 use Rattle.service_core.specs.Core.{core_state}
-use Rattle.service_core.proofs.CoreCounted.{counted_core, counted_dropped}
+use Rattle.service_core.proofs.CoreCounted.{dropped_ends}
 use Rattle.service_core.proofs.DevicesFall.{keeps_shutdown}
 use Rattle.service_core.proofs.DeviceOutcomes.{shutdown_outcome}
 use Rattle.service_core.proofs.PendingWords.{around_order}
@@ -14,9 +14,10 @@ shutdown-answer-requires g c = record {
       c.pending-before.new.board c.pending-before.ensures.looked c.requires.order;
 }
 
-pub returns-clause-core : goal.returns-clause-core
-returns-clause-core g c =
-    counted_core g.D.Devices.faults g.D.Devices.told g.F.FrameStore.kept g.F.EngineSide.state
+pub returns : goal.returns
+returns g c =
+    let ends =
+    dropped_ends g.D.Devices.faults g.D.Devices.told g.F.FrameStore.kept g.F.EngineSide.state
     g.met.F.FrameStore.whole g.F.EngineSide.moves g.met.F.FrameStore.exact c.args.board.now c.pending-before.new.board
     c.shutdown-answer.new.self c.fewer_than.new.board c.pending-before.ensures.looked c.fewer_than.ensures.looked
     c.requires c.shutdown-answer.ensures.order c.pending-before.result c.fewer_than.result
@@ -24,16 +25,5 @@ returns-clause-core g c =
     (λ st. shutdown_plan st) (code_of c.shutdown-answer.result) (payload_of c.shutdown-answer.result)
     c.shutdown-answer.ensures.does
     (tt) (λ st. keeps_shutdown st)
-
-pub returns-clause-goes : goal.returns-clause-goes
-returns-clause-goes g c tally fits =
-    counted_dropped g.D.Devices.faults g.D.Devices.told g.F.FrameStore.kept g.F.EngineSide.state
-    g.met.F.FrameStore.whole g.F.EngineSide.moves g.met.F.FrameStore.exact c.args.board.now c.pending-before.new.board
-    c.shutdown-answer.new.self c.fewer_than.new.board c.pending-before.ensures.looked c.fewer_than.ensures.looked
-    c.requires c.shutdown-answer.ensures.order c.pending-before.result c.fewer_than.result
-    c.pending-before.ensures.count c.fewer_than.ensures.fewer (AnyData)
-    (λ st. shutdown_plan st) (code_of c.shutdown-answer.result) (payload_of c.shutdown-answer.result)
-    c.shutdown-answer.ensures.does
-    (tt) (λ st. keeps_shutdown st)
-    tally
-    (λ rise gone. shutdown_outcome (core_state g.F.FrameStore.kept tally c.pending-before.new.board) rise fits)
+    (λ tally fits rise gone. shutdown_outcome (core_state g.F.FrameStore.kept tally c.pending-before.new.board) rise fits) in
+    record { goes = ends.0; core = ends.1 }

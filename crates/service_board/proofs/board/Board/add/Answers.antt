@@ -1,11 +1,13 @@
-use Rattle.std.proofs.Common.{◌∙◌, ap₂, sym, subst, None, arith, refl}
+use Rattle.std.proofs.Common.{◌≡◌, ◌∙◌, ap₂, sym, subst, None, arith, refl}
 use Rattle.std.proofs.lemmas.Option.{none-some}
 use Rattle.std.proofs.lemmas.Result.{err_from_is_err_and}
 use Rattle.ca_machine.specs.Devices.{add_plan, new_endpoint}
 use Rattle.wave_format.specs.declared.format.Format.{Format}
 use Rattle.wave_format.proofs.FormatLaws.{read-valid}
 use Rattle.period_engine.specs.Sounds.{IsBlockFor}
+use Rattle.device_registry.specs.declared.endpoint.Endpoint.{Endpoint}
 use Rattle.service_board.specs.Does.{AnyData}
+use Rattle.service_board.specs.declared.board.Seat.{Seat}
 use Rattle.service_board.proofs.AddDoes.{add_does, added_order, flow_is, free_to_add, no_memory, seat_made}
 use Rattle.service_board.proofs.AddRows.{free_rows, read_is}
 use Rattle.service_board.proofs.PlainEvents.{refused_does}
@@ -54,47 +56,28 @@ push_reserved-requires g c =
     seats_length c.args.self.now.seats.items c.args.self.now.book.registry.list c.requires.order.seats in
     omega (arith, free.0)
 
-pub returns-clause-does : goal.returns-clause-does
-returns-clause-does g c =
+pub returns : goal.returns
+returns g c =
     let b = c.args.self.now in
     let number = c.args.number.0 in
     let bytes = c.args.format.now in
     let format = c.in_ok-format.format in
-    add_does g.E.EngineSide.state b c.requires.order number c.args.flow bytes c.args.name.now
-    c.in_ok-format.ensures.free
-    (record b { book = record (b.book) { registry = c.add.new.self }; seats = c.push_reserved.new.self })
-    (record (new_endpoint number c.args.flow bytes c.args.name.now) { format = format; flow = c.flow_of.result })
-    (record { endpoint = c.args.number; next = 0; block = c.in-Ok.block }) c.in-Ok-add.ensures.now
-    c.push_reserved.ensures.items
-    (ap₂ (λ (f : Format) flow. record (new_endpoint number c.args.flow bytes c.args.name.now) {
-      format = f;
-      flow = flow;
-    })
+    let asked : Endpoint = new_endpoint number c.args.flow bytes c.args.name.now in
+    let endpoint : Endpoint = record asked { format = format; flow = c.flow_of.result } in
+    let seat : Seat = record { endpoint = c.args.number; next = 0; block = c.in-Ok.block } in
+    let new = record b { book = record (b.book) { registry = c.add.new.self }; seats = c.push_reserved.new.self } in
+    let same : endpoint ≡ asked =
+    ap₂ (λ (f : Format) flow. record asked { format = f; flow = flow })
     (read_is bytes format c.in_ok-format.ensures.format).1
-    (flow_is c.flow_of.result c.args.flow c.flow_of.ensures))
-    refl g.D.Devices.faults g.D.Devices.told g.E.EngineSide.moves g.met.E.EngineSide.none
-
-pub returns-clause-order : goal.returns-clause-order
-returns-clause-order g c =
-    let b = c.args.self.now in
-    let number = c.args.number.0 in
-    let bytes = c.args.format.now in
-    let format = c.in_ok-format.format in
-    added_order g.E.EngineSide.state b c.requires.order number c.args.flow bytes c.args.name.now
-    c.in_ok-format.ensures.free
-    (record b { book = record (b.book) { registry = c.add.new.self }; seats = c.push_reserved.new.self })
-    (record (new_endpoint number c.args.flow bytes c.args.name.now) { format = format; flow = c.flow_of.result })
-    (record { endpoint = c.args.number; next = 0; block = c.in-Ok.block }) c.in-Ok-add.ensures.now
-    c.push_reserved.ensures.items
-    (ap₂ (λ (f : Format) flow. record (new_endpoint number c.args.flow bytes c.args.name.now) {
-      format = f;
-      flow = flow;
-    })
-    (read_is bytes format c.in_ok-format.ensures.format).1
-    (flow_is c.flow_of.result c.args.flow c.flow_of.ensures))
-    refl c.push_reserved.ensures.capacity
-    (seat_made (record { endpoint = c.args.number; next = 0; block = c.in-Ok.block })
-    (record (new_endpoint number c.args.flow bytes c.args.name.now) { format = format; flow = c.flow_of.result }) refl
-    (omega arith)
-    (subst (λ n. IsBlockFor n format.channels c.in-Ok.block) c.period_frames.ensures c.in-Ok.ensures)
-    (read-valid bytes format c.in_ok-format.ensures.format))
+    (flow_is c.flow_of.result c.args.flow c.flow_of.ensures) in
+    record {
+      does = add_does g.E.EngineSide.state b c.requires.order number c.args.flow bytes c.args.name.now
+          c.in_ok-format.ensures.free new endpoint seat c.in-Ok-add.ensures.now c.push_reserved.ensures.items same refl
+          g.D.Devices.faults g.D.Devices.told g.E.EngineSide.moves g.met.E.EngineSide.none;
+      order = added_order g.E.EngineSide.state b c.requires.order number c.args.flow bytes c.args.name.now
+          c.in_ok-format.ensures.free new endpoint seat c.in-Ok-add.ensures.now c.push_reserved.ensures.items same refl
+          c.push_reserved.ensures.capacity
+          (seat_made seat endpoint refl (omega arith)
+          (subst (λ n. IsBlockFor n format.channels c.in-Ok.block) c.period_frames.ensures c.in-Ok.ensures)
+          (read-valid bytes format c.in_ok-format.ensures.format));
+    }

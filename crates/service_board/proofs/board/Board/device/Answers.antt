@@ -16,6 +16,9 @@ returns-in-SetFormat-clause-does g c =
 pub returns-in-SetDefault-clause-does : goal.returns-in-SetDefault-clause-does
 returns-in-SetDefault-clause-does g c = rw c.in-SetDefault.is c.set_default.ensures.does
 
+pub returns-in-SetExclusive-clause-does : goal.returns-in-SetExclusive-clause-does
+returns-in-SetExclusive-clause-does g c = rw c.in-SetExclusive.is c.set_exclusive.ensures.does
+
 pub returns-in-SetName-clause-does : goal.returns-in-SetName-clause-does
 returns-in-SetName-clause-does g c = rw c.in-SetName.is c.set_name.ensures.does
 

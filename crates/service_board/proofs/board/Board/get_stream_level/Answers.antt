@@ -5,7 +5,7 @@ use Rattle.ca_stage.specs.Moves.{stream_at}
 use Rattle.service_board.specs.Does.{AnyData}
 use Rattle.service_board.specs.Lookups.{client_control_rows}
 use Rattle.service_board.proofs.LookingUp.{says_front}
-use Rattle.service_board.proofs.SettingLevels.{named_there}
+use Rattle.service_board.proofs.ChangedClients.{named_there}
 use Rattle.service_board.proofs.StreamLevels.{get_refused, get_told, tells_level}
 use Rattle.service_board.proofs.StreamRows.{opened_there, stream_refused}
 use Rattle.service_board.proofs.board.Board.get_stream_level.Goals as goal

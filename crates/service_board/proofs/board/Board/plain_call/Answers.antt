@@ -31,6 +31,9 @@ returns-in-Start-clause-does g c = rw c.in-Start.is c.start.ensures.does
 pub returns-in-Stop-clause-does : goal.returns-in-Stop-clause-does
 returns-in-Stop-clause-does g c = rw c.in-Stop.is c.stop.ensures.does
 
+pub returns-in-SetEventHandle-clause-does : goal.returns-in-SetEventHandle-clause-does
+returns-in-SetEventHandle-clause-does g c = rw c.in-SetEventHandle.is c.set_event_handle.ensures.does
+
 pub returns-in-GetService-clause-does : goal.returns-in-GetService-clause-does
 returns-in-GetService-clause-does g c = rw c.in-GetService.is c.get_service.ensures.does
 

@@ -184,6 +184,7 @@ returns-clause-planned g c =
       key = c.session_key-key.ensures;
       format = c.in_ok-format.ensures.format;
       kind = c.kind_on-kind.ensures;
+      event = c.is_event_driven.ensures;
       buffer = c.shared_buffer-buffer.ensures.frames;
       some_frame = c.shared_buffer-buffer.ensures.some;
       words =

@@ -1,7 +1,8 @@
-use Rattle.std.proofs.Common.{◌∙◌, length, false, arith, sym}
+use Rattle.std.proofs.Common.{◌∙◌, length, map, refl, false, arith, sym, ap}
 use Rattle.std.proofs.lemmas.Option.{none-some}
+use Rattle.service_board.specs.Events.{with_event}
 use Rattle.service_board.proofs.Closable.{picked_closable}
-use Rattle.service_board.proofs.PeriodEnds.{failed_does, failed_order, whole_does, whole_order}
+use Rattle.service_board.proofs.PeriodEnds.{failed_ends, whole_ends}
 use Rattle.service_board.proofs.PeriodNeeds.{block_fits, end_gains, endpoint_within, entries_feed, entries_playable}
 use Rattle.service_board.proofs.PeriodNeeds.{feed_fits, few_channels, its_ends, next_fits, no_state_row, same_size}
 use Rattle.service_board.proofs.PeriodNeeds.{seat_within}
@@ -92,9 +93,10 @@ close_failed-requires-clause-closable g c =
     picked_closable g.E.EngineSide.state c.args.e.0 c.period_frames-frames.result c.play.new.all
     c.in-Err.ensures.picked
 
-pub returns-in-Ok-clause-does : goal.returns-in-Ok-clause-does
-returns-in-Ok-clause-does g c =
-    whole_does g.D.Devices.faults g.D.Devices.told g.E.EngineSide.moves g.E.EngineSide.state c.args.self.now
+pub returns-in-Ok : goal.returns-in-Ok
+returns-in-Ok g c =
+    let ends =
+    whole_ends g.D.Devices.faults g.D.Devices.told g.E.EngineSide.moves g.E.EngineSide.state c.args.self.now
     c.requires.order c.args.e.0 c.args.at c.requires.found c.play.new.devices c.deref_mut-entries.result.now
     c.feed_loopback.new.all c.endpoint-endpoint.result.now c.period_frames-frames.result c.index_mut-seat.result.now
     c.feed_loopback.new.block
@@ -116,37 +118,19 @@ returns-in-Ok-clause-does g c =
     c.args.e.0 c.args.at c.requires.found c.endpoint-endpoint.result.now c.endpoint-endpoint.ensures
     c.period_frames-frames.result c.period_frames-frames.ensures))
     (c.feed_loopback.ensures.turned (length (end_gains c.endpoint-endpoint.result.now.format.channels))))
-    c.feed_loopback.ensures.rested c.requires.plays c.requires.fresh
+    c.feed_loopback.ensures.rested c.set_events.new.clients
+    (c.set_events.ensures ∙ ap (map (with_event c.args.e.0 c.feed_loopback.new.all)) c.deref_mut-clients.ensures.value) c.requires.plays c.requires.fresh in
+    record {
+      does = ends.0;
+      order = ends.1;
+      plays = tt;
+      notes = λ datas tally. refl;
+    }
 
-pub returns-in-Ok-clause-order : goal.returns-in-Ok-clause-order
-returns-in-Ok-clause-order g c =
-    whole_order g.D.Devices.faults g.D.Devices.told g.E.EngineSide.moves g.E.EngineSide.state c.args.self.now
-    c.requires.order c.args.e.0 c.args.at c.requires.found c.play.new.devices c.deref_mut-entries.result.now
-    c.feed_loopback.new.all c.endpoint-endpoint.result.now c.period_frames-frames.result c.index_mut-seat.result.now
-    c.feed_loopback.new.block
-    (record {
-      old = c.deref_mut-entries.ensures.value;
-      size = c.feed_loopback.auto.all ∙ c.retire.auto.all ∙ c.play.auto.all;
-      endpoint = c.endpoint-endpoint.ensures;
-      frames_are = c.period_frames-frames.ensures;
-      seat = c.index_mut-seat.ensures.value;
-      block_is =
-          same_size c.index_mut-seat.result.now.block c.play.new.block c.feed_loopback.new.block c.in-Ok.ensures.block
-          c.feed_loopback.ensures.block;
-    })
-    (heard_plays g.E.EngineSide.moves g.E.EngineSide.state c.args.self.now c.requires.order
-    c.deref_mut-entries.result.now c.deref_mut-entries.ensures.value g.met.E.EngineSide.joins c.args.e.0
-    c.period_frames-frames.result _ c.play.new.block.bytes c.play.new.all c.retire.new.all _ _ _ _
-    c.in-Ok.ensures.sounds c.retire.ensures.turned c.feed_loopback.new.all c.in-Ok.ensures.picked
-    (rw c.deref_mut-entries.ensures.value (entries_feed g.E.EngineSide.state c.args.self.now c.requires.order
-    c.args.e.0 c.args.at c.requires.found c.endpoint-endpoint.result.now c.endpoint-endpoint.ensures
-    c.period_frames-frames.result c.period_frames-frames.ensures))
-    (c.feed_loopback.ensures.turned (length (end_gains c.endpoint-endpoint.result.now.format.channels))))
-    c.feed_loopback.ensures.rested
-
-pub returns-in-Ok-set_state-clause-does : goal.returns-in-Ok-set_state-clause-does
-returns-in-Ok-set_state-clause-does g c =
-    failed_does g.D.Devices.faults g.D.Devices.told g.E.EngineSide.moves g.E.EngineSide.state c.args.self.now
+pub returns-in-Ok-set_state : goal.returns-in-Ok-set_state
+returns-in-Ok-set_state g c =
+    let ends =
+    failed_ends g.D.Devices.faults g.D.Devices.told g.E.EngineSide.moves g.E.EngineSide.state c.args.self.now
     c.requires.order c.args.e.0 c.args.at c.requires.found c.play.new.devices c.deref_mut-entries.result.now
     c.close_failed.new.all c.endpoint-endpoint.result.now c.period_frames-frames.result c.index_mut-seat.result.now
     c.play.new.block
@@ -164,32 +148,14 @@ returns-in-Ok-set_state-clause-does g c =
     c.in-Err.ensures.picked c.close_failed.ensures.turned)
     c.close_failed.ensures.rested c.set_state.new.self c.in-Ok-set_state.ensures.now
     c.close_failed.new.before
-    c.requires.plays c.requires.fresh
-
-pub returns-in-Ok-set_state-clause-order : goal.returns-in-Ok-set_state-clause-order
-returns-in-Ok-set_state-clause-order g c =
-    failed_order g.D.Devices.faults g.D.Devices.told g.E.EngineSide.moves g.E.EngineSide.state c.args.self.now
-    c.requires.order c.args.e.0 c.args.at c.requires.found c.play.new.devices c.deref_mut-entries.result.now
-    c.close_failed.new.all c.endpoint-endpoint.result.now c.period_frames-frames.result c.index_mut-seat.result.now
-    c.play.new.block
-    (record {
-      old = c.deref_mut-entries.ensures.value;
-      size = c.close_failed.auto.all ∙ c.play.auto.all;
-      endpoint = c.endpoint-endpoint.ensures;
-      frames_are = c.period_frames-frames.ensures;
-      seat = c.index_mut-seat.ensures.value;
-      block_is = c.in-Err.ensures.block;
-    })
-    (sounded_plays g.E.EngineSide.moves g.E.EngineSide.state c.args.self.now c.requires.order
-    c.deref_mut-entries.result.now c.deref_mut-entries.ensures.value g.met.E.EngineSide.joins c.args.e.0
-    c.period_frames-frames.result false _ _ c.play.new.all c.close_failed.new.all _ _ _ _ c.in-Err.ensures.sounds
-    c.in-Err.ensures.picked c.close_failed.ensures.turned)
-    c.close_failed.ensures.rested c.set_state.new.self c.in-Ok-set_state.ensures.now
-    c.close_failed.new.before
-
-pub returns-in-Ok-set_state-clause-notes : goal.returns-in-Ok-set_state-clause-notes
-returns-in-Ok-set_state-clause-notes g c = λ datas tally.
-    c.close_failed.ensures.notes
-    ∙ noted_sounded g.E.EngineSide.moves c.args.self.now c.args.e.0 c.period_frames-frames.result _ _ false
-    c.deref_mut-entries.result.now c.play.new.all _ _ _ _ c.deref_mut-entries.ensures.value
-    c.in-Err.ensures.sounds datas tally
+    c.requires.plays c.requires.fresh in
+    record {
+      does = ends.0;
+      order = ends.1;
+      plays = tt;
+      notes = λ datas tally.
+          c.close_failed.ensures.notes
+          ∙ noted_sounded g.E.EngineSide.moves c.args.self.now c.args.e.0 c.period_frames-frames.result _ _ false
+          c.deref_mut-entries.result.now c.play.new.all _ _ _ _ c.deref_mut-entries.ensures.value
+          c.in-Err.ensures.sounds datas tally;
+    }

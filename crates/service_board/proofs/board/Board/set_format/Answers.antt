@@ -6,7 +6,7 @@ use Rattle.service_board.specs.Does.{AnyData}
 use Rattle.service_board.proofs.PlainEvents.{refused_does}
 use Rattle.service_board.proofs.DuePeriods.{seats_length}
 use Rattle.service_board.proofs.FormatDoes.{format_faulty, format_no_memory, format_unnamed}
-use Rattle.service_board.proofs.FormatMade.{made_does, made_order, made_passes, made_valid}
+use Rattle.service_board.proofs.FormatMade.{made_ends, made_passes, made_valid}
 use Rattle.service_board.proofs.board.Board.set_format.Goals as goal
 
 pub returns-in_err-at-clause-does : goal.returns-in_err-at-clause-does
@@ -62,9 +62,10 @@ index_mut-requires g c =
     let same = seats_length c.args.self.now.seats.items c.args.self.now.book.registry.list c.requires.order.seats in
     omega arith
 
-pub returns-clause-does : goal.returns-clause-does
-returns-clause-does g c =
-    made_does c.args.self.now c.args.e.0 c.in_ok-at.at c.args.format.now c.endpoints.result.now
+pub returns : goal.returns
+returns g c =
+    let ends =
+    made_ends c.args.self.now c.args.e.0 c.in_ok-at.at c.args.format.now c.endpoints.result.now
     c.index-endpoints-at.result c.with_format-endpoint.result c.in-Ok.format
     (record {
       found = c.in_ok-at.ensures.found;
@@ -76,19 +77,5 @@ returns-clause-does g c =
     g.E.EngineSide.moves g.E.EngineSide.state c.requires.order c.disconnect.new.entries c.matches-lost.result
     c.matches-lost.ensures c.disconnect.ensures c.replace.new.self c.in-Ok-replace.ensures.now c.index_mut.result.now
     c.index_mut.ensures.value c.period_frames.result c.period_frames.ensures c.in-Ok-new.block c.in-Ok-new.ensures
-    g.D.Devices.faults g.D.Devices.told
-
-pub returns-clause-order : goal.returns-clause-order
-returns-clause-order g c =
-    made_order c.args.self.now c.args.e.0 c.in_ok-at.at c.args.format.now c.endpoints.result.now
-    c.index-endpoints-at.result c.with_format-endpoint.result c.in-Ok.format
-    (record {
-      found = c.in_ok-at.ensures.found;
-      list-is = c.endpoints.ensures.list;
-      old-read = c.index-endpoints-at.is;
-      spells = sym c.in-Ok.ensures;
-      made-is = c.with_format-endpoint.ensures;
-    })
-    g.E.EngineSide.moves g.E.EngineSide.state c.requires.order c.disconnect.new.entries c.matches-lost.result
-    c.matches-lost.ensures c.disconnect.ensures c.replace.new.self c.in-Ok-replace.ensures.now c.index_mut.result.now
-    c.index_mut.ensures.value c.period_frames.result c.period_frames.ensures c.in-Ok-new.block c.in-Ok-new.ensures
+    g.D.Devices.faults g.D.Devices.told in
+    record { does = ends.0; order = ends.1 }

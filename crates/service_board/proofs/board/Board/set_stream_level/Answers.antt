@@ -1,4 +1,3 @@
-use Rattle.std.proofs.Common.{arith}
 use Rattle.std.proofs.lemmas.Result.{err_from_is_err_and}
 use Rattle.ca_machine.specs.SharedRows.{stream_rows}
 use Rattle.ca_machine.specs.Streams.{set_stream_level_rows}
@@ -6,9 +5,9 @@ use Rattle.ca_stage.specs.Moves.{stream_at}
 use Rattle.service_board.specs.Does.{AnyData}
 use Rattle.service_board.specs.Lookups.{client_control_rows}
 use Rattle.service_board.proofs.LookingUp.{says_front}
-use Rattle.service_board.proofs.SettingLevels.{leveled_order, named_there}
+use Rattle.service_board.proofs.ChangedClients.{named_there}
+use Rattle.service_board.proofs.SettingLevels.{leveled_order}
 use Rattle.service_board.proofs.StreamLevels.{right_level, set_does, set_refused, sets_level, wrong_level}
-use Rattle.service_board.proofs.StreamMoves.{rested_at}
 use Rattle.service_board.proofs.StreamRows.{opened_there, stream_refused}
 use Rattle.service_board.proofs.board.Board.set_stream_level.Goals as goal
 
@@ -55,12 +54,8 @@ returns-clause-does g c =
 
 pub returns-clause-order : goal.returns-clause-order
 returns-clause-order g c =
-    let there = opened_there c.args.conn.0 c.args.client.0 c.args.self.now c.in_ok-at.at c.index.result.now
-    c.in_ok-at.ensures.found c.index.ensures in
-    let rested = rested_at g.E.EngineSide.state c.args.self.now c.in_ok-at.at c.index.result.now there.here
-    c.requires.order in
     leveled_order g.E.EngineSide.state c.args.self.now c.args.conn.0 c.args.client.0 c.args.channel c.args.level
     c.in_ok-place.place c.index_mut.result.now
     (named_there c.args.self.now c.args.conn.0 c.args.client.0 c.in_ok-place.place c.index_mut.result.now
     c.in_ok-place.ensures.found.0 c.index_mut.ensures.value)
-    (omega (arith, rested.fits.few_channels)) c.if-level-gt-MAX_LEVEL.false c.requires.order
+    c.if-level-gt-MAX_LEVEL.false c.requires.order
