@@ -13,7 +13,7 @@ pub use notices::put_notices;
 pub use packets::{
     LONGEST_PACKET, MOST_FRAMES, PACKET_HEAD, add_frames, packet_fits, put_packet_head,
 };
-pub use payload::{Payload, REPLY_ROOM};
+pub use payload::{LONGEST_NOTICES, Payload, REPLY_ROOM};
 pub use sessions::{put_session, put_sessions_of};
 
 #[cfg(test)]

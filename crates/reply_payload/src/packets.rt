@@ -1,9 +1,10 @@
 //! What is told of a packet (IAudioCaptureClient::GetBuffer).
 
 ghost use Rattle.std.specs.Prelude.{◌≡◌, ℕ, ◌+◌, ◌*◌, ◌/◌, ◌%◌, ◌<◌, ◌≤◌, ◌++◌, length};
+ghost use Rattle.ca_base.specs.declared.limits.TheConstants.{LONGEST_BODY};
 ghost use Rattle.reply_payload.specs.Packets.{frames_bytes, packet_head};
 ghost use Rattle.reply_payload.specs.declared.packets.TheConstants.{LONGEST_PACKET, MOST_FRAMES, PACKET_HEAD};
-ghost use Rattle.reply_payload.specs.declared.payload.TheConstants.{REPLY_ROOM};
+ghost use Rattle.reply_payload.specs.declared.payload.TheConstants.{LONGEST_NOTICES, REPLY_ROOM};
 
 use ca_base::Bytes;
 use ca_base::values::BUFFER_DATA_DISCONTINUITY;
@@ -12,8 +13,9 @@ use wave_format::bytes_of_word;
 /// What a packet has ahead of its frames, in bytes: how many frames it has, its flags and its position.
 pub const PACKET_HEAD: usize = 4 + 4 + 8;
 
-/// The most frames of a packet that a reply has room for: twice those of a shared period at the highest rate.
-pub const MOST_FRAMES: usize = 1920;
+/// The most frames of a packet: those of the longest period of an exclusive stream, five seconds, at the highest rate,
+/// 96,000 Hz (IAudioClient::Initialize; the limit of the period is this project's own).
+pub const MOST_FRAMES: usize = 480_000;
 
 /// The most bytes of a frame: two for each of four channels.
 const MOST_FRAME_BYTES: usize = 8;
@@ -24,11 +26,14 @@ pub const LONGEST_PACKET: usize = PACKET_HEAD + MOST_FRAMES * MOST_FRAME_BYTES;
 /// How many frames become bytes at a time, on the stack.
 const BATCH: usize = 64;
 
-/// There is room for a packet in a reply. This does nothing: its contract is the law.
+/// There is room for a packet in a reply, and for all events and notices of a connection; and a reply of that length is
+/// within a frame's body. This does nothing: its contract is the law.
 pub fn packet_fits()
     ensures longest { (frames channels : ℕ) → frames ≤ MOST_FRAMES → channels ≤ 4 →
         PACKET_HEAD + frames * (channels * 2) ≤ LONGEST_PACKET }
     ensures room { LONGEST_PACKET ≤ REPLY_ROOM }
+    ensures notices { LONGEST_NOTICES ≤ REPLY_ROOM }
+    ensures body { 10 + REPLY_ROOM ≤ LONGEST_BODY }
 {}
 
 /// Puts what a packet has ahead of its frames: how many they are, whether packets before it were lost

@@ -4,6 +4,7 @@ ghost use Rattle.std.specs.Prelude.{◌≡◌, ◌≤◌, [], ◌∷◌, ◌++�
 ghost use Rattle.std.specs.Int.{to_le_bytes, w32};
 ghost use Rattle.reply_payload.specs.Answers.{is_failure, payload_bytes, payload_code};
 
+use crate::packets::LONGEST_PACKET;
 use crate::pieces::{flag, put_format};
 use ca_base::limits::{CLIENTS, MAX_TEXT, NOTICES};
 use ca_base::{Bytes, Hr};
@@ -20,9 +21,12 @@ pub const EVENT_SIZE: usize = 8 + 8;
 /// The longest notice in a payload, in bytes.
 pub const LONGEST_NOTICE: usize = NOTICE_HEAD + MAX_TEXT;
 
-/// The longest payload of a reply, in bytes: an event of each client, and all notices that a connection keeps, each with
-/// the longest text.
-pub const REPLY_ROOM: usize = NOTICES_HEAD + CLIENTS * EVENT_SIZE + NOTICES * LONGEST_NOTICE;
+/// The longest payload of events and notices, in bytes: an event of each client, and all notices that a connection
+/// keeps, each with the longest text.
+pub const LONGEST_NOTICES: usize = NOTICES_HEAD + CLIENTS * EVENT_SIZE + NOTICES * LONGEST_NOTICE;
+
+/// The longest payload of a reply, in bytes: that of a packet, which is longer than all events and notices.
+pub const REPLY_ROOM: usize = LONGEST_PACKET;
 
 /// The payload of a granted call.
 #[derive(Clone, Copy, Debug, PartialEq, Eq)]
