@@ -35,12 +35,14 @@ use Rattle.ca_machine.specs.SharedRows.{control_rows, data_call_rows, client_row
 use Rattle.ca_machine.specs.SharedRows.{stream_plan, no_rows, is_inactive, is_invalidated, invalidated_rows}
 use Rattle.ca_machine.specs.SharedRows.{endpoint_of, shut_rows, with_endpoint}
 use Rattle.ca_machine.specs.Clients.{open_plan, release_plan, hangup_plan, activate_plan}
-use Rattle.ca_machine.specs.Streams.{Opening, later_rows, opening_rows, initialized, initialize_plan}
+use Rattle.ca_machine.specs.Openings.{Opening, later_rows, opening_rows, initialized, initialize_plan}
 use Rattle.ca_machine.specs.Streams.{get_stream_level_rows, set_stream_level_rows}
 use Rattle.ca_machine.specs.Sessions.{enum_sessions_plan, get_session_plan, session_payload, set_session_plan}
 use Rattle.ca_machine.specs.Sessions.{state_of_session, with_session}
-use Rattle.ca_machine.specs.Streams.{supported, format_payload, get_mix_format_plan}
-use Rattle.ca_machine.specs.Streams.{is_faulty, is_format_supported_plan, get_device_period_plan, is_malformed}
+use Rattle.ca_machine.specs.Streams.{supported, get_mix_format_plan}
+use Rattle.ca_machine.specs.Formats.{format_payload}
+use Rattle.ca_machine.specs.Streams.{is_format_supported_plan, get_device_period_plan}
+use Rattle.ca_machine.specs.Formats.{is_faulty, is_malformed}
 use Rattle.ca_machine.specs.Streams.{start_rows, stop_rows, reset_rows, get_service_rows, set_event_handle_rows}
 use Rattle.ca_machine.specs.Data.{side_of, seen_of, data_rows, data_plan}
 use Rattle.device_registry.specs.Endpoints.{is_state}

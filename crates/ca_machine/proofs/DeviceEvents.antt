@@ -17,7 +17,7 @@ use Rattle.wave_format.specs.Format.{spelled}
 use Rattle.ca_machine.specs.State.{State, endpoint_at}
 use Rattle.ca_machine.specs.Plan.{Answer, granted, outcome_of}
 use Rattle.ca_machine.specs.SharedRows.{shut_rows}
-use Rattle.ca_machine.specs.Streams.{matches}
+use Rattle.ca_machine.specs.Formats.{matches}
 use Rattle.ca_machine.specs.Devices.{
   add_plan,
   leaves_active,

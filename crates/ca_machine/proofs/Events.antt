@@ -29,32 +29,9 @@ use Rattle.ca_machine.specs.Plan.{Answer, AreAnswers, answered, Plan, outcome_of
 use Rattle.ca_machine.specs.SharedRows.{no_rows, endpoint_of}
 use Rattle.ca_machine.specs.Clients.{open_plan, is_client_on, without_connection, hangup_plan, activate_plan}
 use Rattle.ca_machine.specs.Clients.{release_plan}
-use Rattle.ca_machine.specs.Streams.{
-  Opening,
-  endpoint_channels,
-  flow_of,
-  format_payload,
-  get_device_period_plan,
-  get_mix_format_plan,
-  get_service_rows,
-  get_stream_level_rows,
-  initialize_plan,
-  initialized,
-  is_format_supported_plan,
-  is_kept,
-  joined_by,
-  new_stream,
-  opened_in,
-  reset_rows,
-  set_event_handle_plan,
-  set_event_handle_rows,
-  session_key,
-  set_stream_level_plan,
-  set_stream_level_rows,
-  start_rows,
-  stop_rows,
-  supported,
-}
+use Rattle.ca_machine.specs.Streams.{get_device_period_plan, get_mix_format_plan, get_service_rows, get_stream_level_rows, is_format_supported_plan, reset_rows, set_event_handle_plan, set_event_handle_rows, set_stream_level_plan, set_stream_level_rows, start_rows, stop_rows, supported}
+use Rattle.ca_machine.specs.Openings.{Opening, endpoint_channels, flow_of, initialize_plan, initialized, is_kept, joined_by, new_stream, opened_in, session_key}
+use Rattle.ca_machine.specs.Formats.{format_payload}
 use Rattle.ca_machine.specs.Sessions.{enum_sessions_plan, get_session_plan, set_session_plan, with_session}
 use Rattle.ca_machine.specs.Data.{next_packet_size, packets_read}
 use Rattle.ca_machine.specs.Endpoints.{

@@ -24,7 +24,7 @@ use Rattle.ca_machine.specs.State.{State, endpoint_at, endpoint_numbers}
 use Rattle.ca_machine.specs.Plan.{Outcome, Plan, plain, with_memory, granted, moved, refused}
 use Rattle.ca_machine.specs.Seats.{with_playheads}
 use Rattle.ca_machine.specs.SharedRows.{shut_rows}
-use Rattle.ca_machine.specs.Streams.{is_faulty, matches}
+use Rattle.ca_machine.specs.Formats.{is_faulty, matches}
 
 -- ---- streams that lose their device
 

@@ -16,7 +16,7 @@ use Rattle.ca_machine.specs.State.{State, endpoint_at}
 use Rattle.ca_machine.specs.Plan.{Outcome, Plan, plain, answered, refused}
 use Rattle.ca_machine.specs.SharedRows.{control_rows}
 use Rattle.ca_machine.specs.Sessions.{text_payload}
-use Rattle.ca_machine.specs.Streams.{format_payload}
+use Rattle.ca_machine.specs.Formats.{format_payload}
 
 -- a flow that there isn't, no state at all, or a state that there isn't: states are bits 0 to 3
 abbrev pub is_wrong_enumeration : ℕ → ℕ → Bool

@@ -3,6 +3,8 @@ pub mod Seats
 pub mod Plan
 pub mod SharedRows
 pub mod Clients
+pub mod Formats
+pub mod Openings
 pub mod Streams
 pub mod Sessions
 pub mod Data

@@ -21,22 +21,8 @@ use Rattle.ca_machine.specs.Plan.{outcome_of}
 use Rattle.ca_machine.specs.Plan.Answer.{failed}
 use Rattle.ca_machine.specs.SharedRows.{control_rows, shut_rows}
 use Rattle.ca_machine.specs.Clients.{open_plan, hangup_plan, activate_plan, release_plan}
-use Rattle.ca_machine.specs.Streams.{
-  initialize_plan,
-  get_buffer_size_plan,
-  get_stream_latency_plan,
-  is_format_supported_plan,
-  get_mix_format_plan,
-  get_device_period_plan,
-  start_plan,
-  stop_plan,
-  reset_plan,
-  set_event_handle_plan,
-  get_service_plan,
-  get_position_plan,
-  get_stream_level_plan,
-  set_stream_level_plan,
-}
+use Rattle.ca_machine.specs.Streams.{get_buffer_size_plan, get_stream_latency_plan, is_format_supported_plan, get_mix_format_plan, get_device_period_plan, start_plan, stop_plan, reset_plan, set_event_handle_plan, get_service_plan, get_position_plan, get_stream_level_plan, set_stream_level_plan}
+use Rattle.ca_machine.specs.Openings.{initialize_plan}
 use Rattle.ca_machine.specs.Sessions.{
   enum_sessions_plan,
   get_session_plan,

@@ -3,7 +3,7 @@ use Rattle.std.specs.Prelude.{ℕ, List, [], ◌∷◌, ◌++◌, Bool, false, R
 use Rattle.std.specs.Int.{w32, w64, to_le_bytes}
 use Rattle.ca_base.specs.declared.codes.Hr.{Hr}
 use Rattle.ca_base.specs.declared.codes.TheConstants.Hr as hr
-use Rattle.ca_machine.specs.Streams.{format_payload}
+use Rattle.ca_machine.specs.Formats.{format_payload}
 use Rattle.reply_payload.specs.declared.payload.Payload.{Payload}
 use Rattle.reply_payload.specs.declared.payload.Payload.TheVariants as payload
 

@@ -4,7 +4,7 @@ ghost use Rattle.std.specs.Prelude.{◌≡◌, ◌+◌, ◌≤◌, ◌++◌, len
 ghost use Rattle.ca_base.specs.declared.limits.TheConstants.{MAX_TEXT};
 ghost use Rattle.wave_format.specs.declared.layout.TheConstants.{EXTENSIBLE_LENGTH};
 ghost use Rattle.ca_machine.specs.Sessions.{text_payload};
-ghost use Rattle.ca_machine.specs.Streams.{format_payload};
+ghost use Rattle.ca_machine.specs.Formats.{format_payload};
 
 use ca_base::{Bytes, Text};
 use wave_format::{Format, format_length, write_format};

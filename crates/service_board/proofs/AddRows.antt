@@ -14,7 +14,7 @@ use Rattle.wave_format.specs.declared.format.FormatFault.{FormatFault}
 use Rattle.wave_format.specs.Format.{fault_rows, format_at, spelled, unless_fault}
 use Rattle.ca_machine.specs.Devices.{add_rows}
 use Rattle.ca_machine.specs.State.{State}
-use Rattle.ca_machine.specs.Streams.{is_faulty}
+use Rattle.ca_machine.specs.Formats.{is_faulty}
 use Rattle.device_registry.specs.Endpoints.{EndpointList}
 use Rattle.device_registry.specs.Rows.{add_rows as registry_rows}
 use Rattle.service_book.proofs.Rows.{row_holds, row_passes}

@@ -26,7 +26,7 @@ use Rattle.std.specs.Vec.{vec_capacity}
 use Rattle.service_book.specs.BookState.{book_state}
 use Rattle.service_book.specs.declared.book.Book.{Book}
 use Rattle.service_board.specs.Board.{playhead_of, state_of}
-use Rattle.service_board.specs.Closing.{Disconnects}
+use Rattle.stream_entries.specs.Closing.{Disconnects}
 use Rattle.service_board.specs.InOrder.{InOrder, IsOn, Seats, next_at, suits}
 use Rattle.service_board.specs.declared.board.Board.{Board}
 use Rattle.service_board.specs.declared.board.Seat.{Seat}

@@ -1,5 +1,5 @@
 -- A board is in order after a close of streams within a scope, with another book and other seats.
-use Rattle.std.proofs.Common.{◌≡◌, ℕ, suc, ◌≤◌, ◌==◌, ◌&&◌, List, [], ◌∷◌, length, map, Bool, true, false, Option}
+use Rattle.std.proofs.Common.{◌≡◌, ℕ, ◌≤◌, ◌==◌, ◌&&◌, List, [], ◌∷◌, map, Bool, true, false, Option}
 use Rattle.std.proofs.Common.{Some, None, refl, sym, ap, ap₂, ◌∙◌, subst, arith, if◌then◌else◌}
 use Rattle.std.specs.Global.{Vec}
 use Rattle.std.specs.List.{All, AllByRecursion, AllZip, find}
@@ -25,13 +25,12 @@ use Rattle.device_registry.specs.declared.endpoint.Endpoint.{Endpoint}
 use Rattle.device_registry.specs.Endpoints.{EndpointList}
 use Rattle.role_defaults.specs.declared.choices.Choices.{Choices}
 use Rattle.period_engine.specs.declared.entry.StreamEntry.{StreamEntry}
-use Rattle.period_engine.specs.Entries.{IsRested, stream_with}
+use Rattle.period_engine.specs.Entries.{stream_with}
 use Rattle.period_engine.specs.SubSteps.{Turned}
-use Rattle.period_engine.proofs.Turns.{unmoved}
 use Rattle.service_book.specs.InOrder.{IsBook}
 use Rattle.service_book.specs.Gains.{gains_by}
 use Rattle.service_book.specs.declared.book.Book.{Book}
-use Rattle.service_board.specs.Closing.{Disconnects, closes_if, is_open_within}
+use Rattle.stream_entries.specs.Closing.{Disconnects, closes_if, is_open_within}
 use Rattle.service_board.specs.InOrder.{Belongs, InOrder, IsOn, Seats}
 use Rattle.service_board.specs.declared.board.Board.{Board}
 use Rattle.service_board.specs.declared.board.Seat.{Seat}
@@ -107,13 +106,6 @@ module _ {E : Type 0} (moves : E → List StoreStep → E → Type 0) where
       ap₂ (λ n ns. n ∷ ns) (ap (λ c. c.0) h.0.same.client) (clients_turned f xs ys h.1)
   clients_turned f [] (y ∷ ys) h = absurd h
   clients_turned f (x ∷ xs) [] h = absurd h
-
-  pub length_turned : (f : Stream → Stream) (xs ys : List (StreamEntry E)) → AllZip (Turned moves f) xs ys →
-      length ys ≡ length xs
-  length_turned f [] [] h = refl
-  length_turned f (x ∷ xs) (y ∷ ys) h = ap (λ n. suc n) (length_turned f xs ys h.1)
-  length_turned f [] (y ∷ ys) h = absurd h
-  length_turned f (x ∷ xs) [] h = absurd h
 
   -- ---- entries still belong
 
@@ -207,17 +199,3 @@ other_book book registry choices is_shut endpoints added h = record {
   levels = h.levels;
   owned = h.owned;
 }
-
--- nothing is closed
-pub none_lost : {E : Type 0} (moves : E → List StoreStep → E → Type 0) (stays : (a : E) → moves a [] a)
-    (state : E → EndState) (reason : Reason) (scope : Option ℕ) (entries : Vec (StreamEntry E)) →
-    All (IsRested state) entries.items → Disconnects moves state false reason scope entries entries
-none_lost {E} moves stays state reason scope entries rested =
-    record { turned = each entries.items; rested = rested; room = refl }
-  where
-    same : (a : StreamEntry E) → Turned moves (closes_if false reason scope) a a
-    same a = unmoved moves (closes_if false reason scope) a stays (λ d. refl)
-
-    each : (xs : List (StreamEntry E)) → AllZip (Turned moves (closes_if false reason scope)) xs xs
-    each [] = tt
-    each (x ∷ xs) = (same x, each xs)

@@ -25,7 +25,7 @@ use Rattle.period_engine.specs.Entries.{stream_of, streams_of}
 use Rattle.service_book.specs.BookState.{book_state}
 use Rattle.service_book.specs.declared.book.Book.{Book}
 use Rattle.service_board.specs.Board.{playhead_of, stage_with, state_of}
-use Rattle.service_board.specs.Closing.{Disconnects, closes_if, is_open_within}
+use Rattle.stream_entries.specs.Closing.{Disconnects, closes_if, is_open_within}
 use Rattle.service_board.specs.Does.{AnyData, Does, Made, after_steps, store_at}
 use Rattle.service_board.specs.InOrder.{InOrder}
 use Rattle.service_board.specs.Lookups.{Says}

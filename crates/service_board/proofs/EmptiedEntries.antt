@@ -1,5 +1,5 @@
 -- A Reset of an entry: as many whole frames, or whole packets, are taken off its store as there are.
-use Rattle.std.proofs.Common.{◌≡◌, ℕ, zero, suc, ◌+◌, ◌*◌, ◌/◌, ◌<◌, ◌≤◌, ◌==◌, ◌&&◌, List, [], ◌∷◌, length, drop}
+use Rattle.std.proofs.Common.{◌≡◌, ℕ, zero, suc, ◌+◌, ◌*◌, ◌/◌, ◌≤◌, ◌==◌, ◌&&◌, List, [], ◌∷◌, length, drop}
 use Rattle.std.proofs.Common.{Bool, true, false, refl, sym, ap, ap₂, ◌∙◌, arith, if◌then◌else◌}
 use Rattle.std.proofs.Math.ListN.{drop_of_length-le}
 use Rattle.std.proofs.lemmas.Bool.{ne_eqb}
@@ -8,7 +8,7 @@ use Rattle.ca_base.specs.declared.ids.Gate.{Gate}
 use Rattle.ca_base.specs.declared.ids.Gate.TheVariants as gate
 use Rattle.buffer_ring.specs.declared.step.Deed.TheVariants as deed
 use Rattle.buffer_ring.specs.declared.step.StoreStep.TheVariants as step
-use Rattle.ca_stage.specs.Stage.{BufferData, Frame, Packet, Stream, is_render}
+use Rattle.ca_stage.specs.Stage.{BufferData, Frame, Packet, is_render}
 use Rattle.ca_stage.specs.Moves.{moved, reset}
 use Rattle.ca_machine.specs.Streams.{is_at_start}
 use Rattle.period_engine.specs.declared.entry.StreamEntry.{StreamEntry}

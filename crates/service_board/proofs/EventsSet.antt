@@ -1,10 +1,9 @@
 -- Events that a period sets: over the entries of a board they are those of the machine, and the board stays in order.
 use Rattle.std.proofs.Common.{◌≡◌, ℕ, ◌==◌, ◌||◌, ◌&&◌, List, [], ◌∷◌, length, map, Bool, true, false, refl, sym, ap}
-use Rattle.std.proofs.Common.{ap₂, subst, ◌∙◌, if◌then◌else◌}
+use Rattle.std.proofs.Common.{subst, ◌∙◌, if◌then◌else◌}
 use Rattle.std.specs.Global.{Vec}
 use Rattle.std.specs.List.{list_any}
 use Rattle.std.specs.Vec.{with_items}
-use Rattle.std.proofs.lemmas.Bool.{true≢false}
 use Rattle.std.proofs.lemmas.List.{length-map, with_items_is}
 use Rattle.buffer_ring.specs.declared.step.EndState.{EndState}
 use Rattle.ca_stage.specs.Stage.{BufferData}
@@ -13,34 +12,11 @@ use Rattle.ca_machine.specs.declared.state.Client.{Client}
 use Rattle.ca_machine.specs.Periods.{is_signaled}
 use Rattle.ca_machine.specs.Periods as machine
 use Rattle.period_engine.specs.declared.entry.StreamEntry.{StreamEntry}
-use Rattle.period_engine.specs.Entries.{stream_of, streams_of}
-use Rattle.service_board.specs.Events.{is_signaled_entry, with_event}
+use Rattle.period_engine.specs.Entries.{streams_of}
+use Rattle.stream_entries.specs.Events.{is_signaled_entry, with_event}
 use Rattle.service_board.specs.InOrder.{InOrder}
 use Rattle.service_board.specs.declared.board.Board.{Board}
 use Rattle.service_board.proofs.ChangedClients.{ChangesClients, clients_order, flag_if, flags_change, with_clients}
-
--- if no stream sets an event, nothing is changed
-none_set : {E : Type 0} (number : ℕ) (all : List (StreamEntry E)) (c : Client) →
-    list_any (is_signaled_entry number) all ≡ false → with_event number all c ≡ c
-none_set {E} number all c none = ap (λ v. if v then record c { flagged = true } else c) (others all none)
-  where
-    by : (p q : Bool) (x xs : Bool) → (p || q) ≡ false → (q ≡ false → xs ≡ false) → (x && p || xs) ≡ false
-    by true q x xs h f = absurd (true≢false h)
-    by false q true xs h f = f h
-    by false q false xs h f = f h
-
-    others : (ys : List (StreamEntry E)) → list_any (is_signaled_entry number) ys ≡ false →
-        list_any (λ x. x.client.0 == c.client.0 && is_signaled_entry number x) ys ≡ false
-    others [] h = refl
-    others (y ∷ ys) h =
-        by (is_signaled_entry number y) (list_any (is_signaled_entry number) ys) (y.client.0 == c.client.0)
-        (list_any (λ x. x.client.0 == c.client.0 && is_signaled_entry number x) ys) h (others ys)
-
-pub none_changed : {E : Type 0} (number : ℕ) (all : List (StreamEntry E)) (clients : List Client) →
-    list_any (is_signaled_entry number) all ≡ false → clients ≡ map (with_event number all) clients
-none_changed number all [] none = refl
-none_changed number all (c ∷ clients) none =
-    ap₂ (λ x xs. x ∷ xs) (sym (none_set number all c none)) (none_changed number all clients none)
 
 -- the streams of entries set the events that the entries set
 module _ {E : Type 0} (number : ℕ) (datas : ℕ → BufferData) where

@@ -28,14 +28,14 @@ use Rattle.ca_machine.specs.Plan.Answer.{found as memory_found}
 use Rattle.ca_machine.proofs.DevicesGive.{found_gives_none, passes_unread}
 use Rattle.ca_machine.specs.Devices.{missing_rows, set_format_plan, with_endpoint_format, with_format, with_named}
 use Rattle.ca_machine.specs.Periods.{period_frames}
-use Rattle.ca_machine.specs.Streams.{is_faulty, matches}
+use Rattle.ca_machine.specs.Formats.{is_faulty, matches}
 use Rattle.ca_machine.specs.View.{outside}
 use Rattle.period_engine.specs.declared.entry.StreamEntry.{StreamEntry}
 use Rattle.period_engine.specs.declared.block.Block.{Block}
 use Rattle.period_engine.specs.Sounds.{IsBlockFor}
 use Rattle.service_book.proofs.Rows.{row_holds, row_passes}
 use Rattle.service_board.specs.Board.{playhead_of, state_of}
-use Rattle.service_board.specs.Closing.{Disconnects}
+use Rattle.stream_entries.specs.Closing.{Disconnects}
 use Rattle.service_board.specs.Does.{AnyData, Does}
 use Rattle.service_board.specs.InOrder.{InOrder, Seats, next_at}
 use Rattle.service_board.specs.Lookups.{Says}

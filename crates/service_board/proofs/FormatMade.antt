@@ -17,11 +17,11 @@ use Rattle.device_registry.specs.Endpoints.{EndpointList, endpoint_at, replaced_
 use Rattle.device_registry.specs.Rows.{found_rows}
 use Rattle.ca_machine.specs.Devices.{set_format_plan}
 use Rattle.ca_machine.specs.Periods.{period_frames}
-use Rattle.ca_machine.specs.Streams.{matches}
+use Rattle.ca_machine.specs.Formats.{matches}
 use Rattle.period_engine.specs.declared.entry.StreamEntry.{StreamEntry}
 use Rattle.period_engine.specs.declared.block.Block.{Block}
 use Rattle.period_engine.specs.Sounds.{IsBlockFor}
-use Rattle.service_board.specs.Closing.{Disconnects}
+use Rattle.stream_entries.specs.Closing.{Disconnects}
 use Rattle.service_board.specs.Does.{AnyData, Does}
 use Rattle.service_board.specs.InOrder.{InOrder}
 use Rattle.service_board.specs.NamedEndpoints.{FindsNamed}

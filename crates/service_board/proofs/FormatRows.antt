@@ -14,8 +14,10 @@ use Rattle.device_registry.specs.declared.endpoint.Endpoint.{Endpoint}
 use Rattle.ca_machine.specs.Plan.{answered}
 use Rattle.ca_machine.specs.SharedRows.{control_rows}
 use Rattle.ca_machine.specs.State.{State}
-use Rattle.ca_machine.specs.Streams.{endpoint_rows, format_payload, is_faulty, is_format_supported_plan, is_malformed}
-use Rattle.ca_machine.specs.Streams.{matches, supported}
+use Rattle.ca_machine.specs.Streams.{endpoint_rows, is_format_supported_plan}
+use Rattle.ca_machine.specs.Formats.{format_payload, is_faulty, is_malformed}
+use Rattle.ca_machine.specs.Streams.{supported}
+use Rattle.ca_machine.specs.Formats.{matches}
 use Rattle.reply_payload.specs.Answers.{code_of, payload_bytes, payload_code, payload_of}
 use Rattle.service_book.specs.Formats.{TellsSupport, support_payload}
 use Rattle.service_board.specs.Board.{state_of}

@@ -11,7 +11,8 @@ use Rattle.period_engine.specs.declared.entry.StreamEntry.{StreamEntry}
 use Rattle.period_engine.specs.Entries.{IsRested}
 use Rattle.service_book.specs.InOrder.{IsBook}
 use Rattle.service_book.specs.declared.book.Book.{Book}
-use Rattle.service_board.specs.Gains.{HasClient, HasSameStream, Regains}
+use Rattle.service_board.specs.Gains.{HasSameStream}
+use Rattle.stream_entries.specs.Gains.{HasClient, Regains}
 use Rattle.service_board.specs.InOrder.{Belongs, InOrder, Seats}
 use Rattle.service_board.specs.declared.board.Board.{Board}
 use Rattle.service_board.specs.declared.board.Seat.{Seat}

@@ -11,7 +11,7 @@ use Rattle.period_engine.specs.declared.entry.StreamEntry.{StreamEntry}
 use Rattle.period_engine.specs.Agreement.{ArePacked, Layout, layout_of}
 use Rattle.service_book.specs.Leaving.{is_live}
 use Rattle.service_board.specs.Does.{Made, layout_at, store_at}
-use Rattle.service_board.specs.Leaving.{ClosesOnce, Goes, is_of_live}
+use Rattle.stream_entries.specs.Leaving.{ClosesOnce, Goes, is_of_live}
 
 module _ {E : Type 0} (moves : E → List StoreStep → E → Type 0) (clients : List Client) where
   -- an entry's store goes if no live client has it

@@ -6,11 +6,6 @@ use Rattle.std.proofs.lemmas.Bool.Decides.{nat_tests}
 use Rattle.std.specs.List.{list_any}
 use Rattle.ca_stage.specs.Order.{RisesFrom}
 
-pub any_mapped : {A B : Type 0} (q : B → Bool) (f : A → B) (xs : List A) →
-    list_any q (map f xs) ≡ list_any (λ x. q (f x)) xs
-any_mapped q f [] = refl
-any_mapped q f (x ∷ xs) = ap (λ v. q (f x) || v) (any_mapped q f xs)
-
 pub kept_mapped : {A B : Type 0} (f : A → B) (q : B → Bool) (p : A → Bool) → ((a : A) → q (f a) ≡ p a) →
     (xs : List A) → filter q (map f xs) ≡ map f (filter p xs)
 kept_mapped f q p h [] = refl

@@ -24,7 +24,8 @@ use Rattle.service_book.specs.InOrder.{HasLevels, IsBook, IsOpen, IsOwned}
 use Rattle.service_book.specs.Leaving.{is_live}
 use Rattle.service_book.specs.declared.book.Book.{Book}
 use Rattle.service_board.specs.InOrder.{Belongs, InOrder}
-use Rattle.service_board.specs.Leaving.{Forgets, is_in_use, is_of_live}
+use Rattle.service_board.specs.Leaving.{Forgets}
+use Rattle.stream_entries.specs.Leaving.{is_in_use, is_of_live}
 use Rattle.service_board.specs.declared.board.Board.{Board}
 use Rattle.service_board.proofs.KeptEntries.{fewer_kept, find_kept, found_kept, rises_kept}
 use Rattle.service_board.proofs.LeavingState.{without_clients}

@@ -30,10 +30,12 @@ use Rattle.service_book.specs.Leaving.{is_live}
 use Rattle.service_book.specs.declared.book.Book.{Book}
 use Rattle.service_board.specs.Board.{stage_with, state_of}
 use Rattle.service_board.specs.Does.{Made, after_steps, layout_at, store_at}
-use Rattle.service_board.specs.Leaving.{AreClosed, Forgets, Keeps, is_in_use, is_of_live}
+use Rattle.service_board.specs.Leaving.{AreClosed, Forgets}
+use Rattle.stream_entries.specs.Leaving.{Keeps, is_in_use, is_of_live}
 use Rattle.service_board.specs.declared.board.Board.{Board}
 use Rattle.service_board.proofs.GoingSteps.{GoesUnlessLive, made_of, none_of_live, packed_of, steps_of}
-use Rattle.service_board.proofs.KeptEntries.{any_mapped, apart, kept_alike, kept_mapped}
+use Rattle.service_board.proofs.KeptEntries.{apart, kept_alike, kept_mapped}
+use Rattle.stream_entries.proofs.SessionStates.{any_mapped}
 
 -- a client that is live
 live_is : (clients : List Client) (n : ℕ) → is_among n (live_clients clients) ≡ is_live clients n

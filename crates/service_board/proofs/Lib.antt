@@ -12,7 +12,6 @@ pub mod EmptiedEntries
 pub mod PlainEvents
 pub mod NewBoards
 pub mod ByClient
-pub mod Closable
 pub mod HeardEntries
 pub mod Playing
 pub mod Disconnecting
@@ -38,7 +37,6 @@ pub mod PeriodEnds
 pub mod Sounding
 pub mod Connecting
 pub mod Activating
-pub mod PartedEntries
 pub mod KeptEntries
 pub mod GoingSteps
 pub mod LeavingState

@@ -26,7 +26,8 @@ use Rattle.service_book.proofs.Rows.{row_fails}
 use Rattle.service_book.proofs.Finding.{FoundAt, found_at, none_at, find_mapped, first_front, first_later}
 use Rattle.service_board.specs.Board.{state_of}
 use Rattle.service_board.specs.Lookups.{FindsClient, FindsStream, Says, client_call_rows, client_control_rows}
-use Rattle.service_board.specs.Lookups.{is_entry_of, stream_call_rows}
+use Rattle.service_board.specs.Lookups.{stream_call_rows}
+use Rattle.stream_entries.specs.Search.{is_entry_of}
 use Rattle.service_board.specs.declared.board.Board.{Board}
 
 -- rows that come first refuse, whatever comes behind them

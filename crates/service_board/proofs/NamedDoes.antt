@@ -19,7 +19,7 @@ use Rattle.ca_machine.specs.Plan.{Outcome}
 use Rattle.ca_machine.specs.Devices.{leaves_active, set_state_plan, with_endpoint_state, with_named}
 use Rattle.period_engine.specs.declared.entry.StreamEntry.{StreamEntry}
 use Rattle.service_board.specs.Board.{state_of}
-use Rattle.service_board.specs.Closing.{Disconnects}
+use Rattle.stream_entries.specs.Closing.{Disconnects}
 use Rattle.service_board.specs.Does.{AnyData, Does}
 use Rattle.service_board.specs.InOrder.{InOrder}
 use Rattle.service_board.specs.Lookups.{Says}

@@ -10,7 +10,7 @@ use Rattle.period_engine.specs.declared.entry.StreamEntry.{StreamEntry}
 use Rattle.period_engine.specs.Entries.{streams_of}
 use Rattle.service_board.specs.Board.{state_of}
 use Rattle.service_board.specs.InOrder.{InOrder}
-use Rattle.service_board.specs.Telling.{noted_entry, noted_with}
+use Rattle.stream_entries.specs.Noting.{noted_entry, noted_with}
 use Rattle.service_board.specs.declared.board.Board.{Board}
 use Rattle.service_board.proofs.EntryCounts.{are_entries}
 

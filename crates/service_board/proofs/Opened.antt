@@ -24,8 +24,8 @@ use Rattle.ca_machine.specs.State.{State, client_of, session_list, with_sessions
 use Rattle.device_registry.specs.Endpoints.{is_endpoint}
 use Rattle.ca_machine.specs.Plan.{Outcome}
 use Rattle.ca_machine.specs.View.{AnswersBy, Outside, outside}
-use Rattle.ca_machine.specs.Streams.{endpoint_channels, flow_of, initialize_rows, initialized, is_kept, joined_by}
-use Rattle.ca_machine.specs.Streams.{kind_opened, new_stream, opened_in, session_key, shared_buffer, words_stored}
+use Rattle.ca_machine.specs.Openings.{endpoint_channels, flow_of, initialize_rows, initialized, is_kept, joined_by}
+use Rattle.ca_machine.specs.Openings.{kind_opened, new_stream, opened_in, session_key, shared_buffer, words_stored}
 use Rattle.period_engine.specs.declared.entry.StreamEntry.{StreamEntry}
 use Rattle.period_engine.specs.Entries.{stream_of}
 use Rattle.service_book.specs.BookState.{book_state}
@@ -35,7 +35,7 @@ use Rattle.service_book.specs.declared.opening.Opening.{Opening as Asked}
 use Rattle.service_book.specs.declared.opening.OpeningPlan.{OpeningPlan}
 use Rattle.service_board.specs.Board.{stage_with, state_of}
 use Rattle.service_board.specs.Does.{Does, Made, store_at}
-use Rattle.service_board.specs.Lookups.{is_entry_of}
+use Rattle.stream_entries.specs.Search.{is_entry_of}
 use Rattle.service_board.specs.Openings.{IsFresh, Plans, new_entry}
 use Rattle.service_board.specs.declared.board.Board.{Board}
 use Rattle.service_board.proofs.PlainEvents.{made_still}

@@ -22,7 +22,7 @@ use Rattle.ca_stage.specs.Order.{RisesFrom, is_among}
 use Rattle.ca_stage.proofs.Lists.{all-map, all_found, all_weaker, chosen, found_passes}
 use Rattle.ca_machine.specs.declared.state.Client.{Client}
 use Rattle.ca_machine.specs.State.{is_client_of, is_connection, live_clients}
-use Rattle.ca_machine.specs.Streams.{has_loopback, is_cross_process, kind_opened}
+use Rattle.ca_machine.specs.Openings.{has_loopback, is_cross_process, kind_opened}
 use Rattle.ca_machine.proofs.LiveClients.{found_is_live}
 use Rattle.period_engine.specs.declared.entry.StreamEntry.{StreamEntry}
 use Rattle.period_engine.specs.Entries.{AreInOrder, IsRested}

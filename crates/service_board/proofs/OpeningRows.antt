@@ -25,16 +25,20 @@ use Rattle.device_registry.specs.declared.endpoint.Endpoint.{Endpoint}
 use Rattle.ca_machine.specs.State.{State, client_of, is_connection}
 use Rattle.device_registry.specs.Endpoints.{is_endpoint}
 use Rattle.ca_machine.specs.SharedRows.{connection_rows, control_rows, endpoint_of, shut_rows}
-use Rattle.ca_machine.specs.Streams.{endpoint_rows, has_loopback, has_no_match, initialize_rows, is_capturing}
-use Rattle.ca_machine.specs.Streams.{is_cross_process, is_faulty, is_malformed, joining_rows, later_rows, session_key}
-use Rattle.ca_machine.specs.Streams.{shared_buffer}
+use Rattle.ca_machine.specs.Streams.{endpoint_rows}
+use Rattle.ca_machine.specs.Openings.{has_loopback, initialize_rows, is_capturing}
+use Rattle.ca_machine.specs.Formats.{has_no_match}
+use Rattle.ca_machine.specs.Openings.{is_cross_process, joining_rows, later_rows, session_key}
+use Rattle.ca_machine.specs.Formats.{is_faulty, is_malformed}
+use Rattle.ca_machine.specs.Openings.{shared_buffer}
 use Rattle.buffer_ring.specs.declared.step.StoreStep.{StoreStep}
 use Rattle.service_book.specs.Openings.{argument_rows, arguments, flow_rows, format_rows, key_by, opening_plan}
 use Rattle.service_book.specs.declared.opening.Opening.{Opening as Asked}
 use Rattle.service_book.proofs.Finding.{found_at, none_at}
 use Rattle.service_board.specs.Board.{state_of}
 use Rattle.service_board.specs.Does.{AnyData, Does}
-use Rattle.service_board.specs.Lookups.{FindsEndpoint, Says, is_entry_of}
+use Rattle.service_board.specs.Lookups.{FindsEndpoint, Says}
+use Rattle.stream_entries.specs.Search.{is_entry_of}
 use Rattle.service_board.specs.declared.board.Board.{Board}
 use Rattle.service_board.proofs.PlainEvents.{refused_does}
 use Rattle.service_board.proofs.LookingUp.{no_stream, says_front, says_later, stream_there}

@@ -37,7 +37,7 @@ use Rattle.service_book.specs.BookState.{book_state}
 use Rattle.service_board.specs.Board.{playhead_of, stage_with, state_of}
 use Rattle.service_board.specs.Does.{AnyData, Does}
 use Rattle.service_board.specs.Due.{FindsDue, HasFlow}
-use Rattle.service_board.specs.Events.{with_event}
+use Rattle.stream_entries.specs.Events.{with_event}
 use Rattle.service_board.specs.InOrder.{InOrder, Seats}
 use Rattle.service_board.specs.Plays.{Plays}
 use Rattle.service_board.specs.declared.board.Board.{Board}

@@ -17,7 +17,7 @@ use Rattle.period_engine.specs.declared.entry.StreamEntry.{StreamEntry}
 use Rattle.service_book.specs.Gains.{gains_by}
 use Rattle.service_board.specs.Board.{state_of}
 use Rattle.service_board.specs.InOrder.{InOrder}
-use Rattle.service_board.specs.Lookups.{is_entry_of}
+use Rattle.stream_entries.specs.Search.{is_entry_of}
 use Rattle.service_board.specs.declared.board.Board.{Board}
 use Rattle.service_board.proofs.LookingUp.{stream_there}
 use Rattle.service_board.proofs.OneEntry.{IsSole, here, later, sole_there}

@@ -19,7 +19,8 @@ use Rattle.period_engine.specs.SubSteps.{Turned, picks_on}
 use Rattle.service_board.specs.Board.{state_of}
 use Rattle.service_board.specs.Gains.{HasSameStreams}
 use Rattle.service_board.specs.Plays.{PicksAndSounds}
-use Rattle.service_board.specs.Telling.{NotesFailure, has_failed, noted_entry, noted_with}
+use Rattle.service_board.specs.Telling.{NotesFailure, has_failed}
+use Rattle.stream_entries.specs.Noting.{noted_entry, noted_with}
 use Rattle.service_board.specs.declared.board.Board.{Board}
 use Rattle.service_board.proofs.NotedStates.{noted_board}
 use Rattle.service_board.proofs.SameStreams.{same_state}

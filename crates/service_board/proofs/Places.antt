@@ -11,7 +11,7 @@ use Rattle.ca_stage.proofs.Lists.{all-map}
 use Rattle.period_engine.specs.declared.entry.StreamEntry.{StreamEntry}
 use Rattle.period_engine.specs.Entries.{stream_of}
 use Rattle.service_board.specs.Does.{store_at}
-use Rattle.service_board.specs.Lookups.{is_entry_of}
+use Rattle.stream_entries.specs.Search.{is_entry_of}
 use Rattle.service_board.specs.Openings.{is_above}
 use borrow.Author.Tests.{ltb-true, ltb-false}
 

@@ -24,7 +24,7 @@ use Rattle.period_engine.specs.Agreement.{AllAgree}
 use Rattle.period_engine.specs.Entries.{AreEntries, IsPicked, is_played, stream_with, streams_of}
 use Rattle.period_engine.specs.Sounds.{AllTakeSteps, IsMixable, MixesThese, Sounds}
 use Rattle.period_engine.specs.SubSteps.{IsSameEntry, Turned, picks_on, retires_on}
-use Rattle.service_board.specs.Closing.{closes_within}
+use Rattle.stream_entries.specs.Closing.{closes_within}
 use Rattle.service_board.specs.Does.{after_steps}
 use Rattle.service_board.specs.Plays.{AllGo, IsPlayable, Plays, StaysNear, ends_on, plays_on}
 use Rattle.service_board.proofs.ByClient.{AreAfter, agree_alike, agree_first, agree_then, all_after, all_read}

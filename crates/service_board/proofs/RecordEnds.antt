@@ -32,10 +32,10 @@ use Rattle.period_engine.specs.Feeds.{Captures}
 use Rattle.period_engine.specs.SubSteps.{Turned}
 use Rattle.service_book.specs.BookState.{book_state}
 use Rattle.service_board.specs.Board.{playhead_of, stage_with, state_of}
-use Rattle.service_board.specs.Closing.{closes_within}
+use Rattle.stream_entries.specs.Closing.{closes_within}
 use Rattle.service_board.specs.Does.{AnyData, Does}
 use Rattle.service_board.specs.Due.{FindsDue, HasFlow}
-use Rattle.service_board.specs.Events.{with_event}
+use Rattle.stream_entries.specs.Events.{with_event}
 use Rattle.service_board.specs.InOrder.{InOrder, Seats}
 use Rattle.service_board.specs.declared.board.Board.{Board}
 use Rattle.service_board.specs.declared.board.Seat.{Seat}

@@ -26,7 +26,7 @@ use Rattle.period_engine.specs.Entries.{is_recorded, stream_with}
 use Rattle.period_engine.specs.Feeds.{AreGiven, Captures, feeds_given}
 use Rattle.period_engine.specs.SubSteps.{Turned}
 use Rattle.period_engine.proofs.Turns.{same_but}
-use Rattle.service_board.specs.Closing.{closes_within}
+use Rattle.stream_entries.specs.Closing.{closes_within}
 use Rattle.service_board.specs.Plays.{AllGo}
 use Rattle.service_board.proofs.ByClient.{all_after, all_turned, clients_of, clients_stay, go_alike, steps_of, within}
 use Rattle.service_board.proofs.ByClient.{within_each, within_none}

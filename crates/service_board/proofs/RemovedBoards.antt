@@ -29,7 +29,7 @@ use Rattle.service_book.specs.BookState.{book_state}
 use Rattle.service_book.specs.InOrder.{IsBook}
 use Rattle.service_book.specs.declared.book.Book.{Book}
 use Rattle.service_board.specs.Board.{playhead_of}
-use Rattle.service_board.specs.Closing.{Disconnects}
+use Rattle.stream_entries.specs.Closing.{Disconnects}
 use Rattle.service_board.specs.Does.{AnyData, Does}
 use Rattle.service_board.specs.InOrder.{InOrder, IsOn, Seats, is_seat, next_at}
 use Rattle.service_board.specs.NamedEndpoints.{FindsNamed}

@@ -31,7 +31,7 @@ use Rattle.service_board.specs.declared.board.Board.{Board}
 use Rattle.service_board.specs.declared.board.Seat.{Seat}
 use Rattle.service_board.proofs.ChangedBoards.{changed_alike, changed_order, numbers}
 use Rattle.service_board.proofs.ChangedEndpoints.{zip_changed}
-use Rattle.service_board.proofs.DisconnectedOrder.{none_lost}
+use Rattle.stream_entries.proofs.TurnedEntries.{none_lost}
 use Rattle.service_board.proofs.GrantedEvents.{book_does}
 use Rattle.service_board.proofs.NamedRows.{own_says}
 

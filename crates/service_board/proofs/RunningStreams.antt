@@ -17,7 +17,7 @@ use Rattle.period_engine.specs.SubSteps.{IsSameEntry}
 use Rattle.service_board.specs.Does.{AnyData, Does}
 use Rattle.service_board.specs.InOrder.{InOrder}
 use Rattle.service_board.specs.declared.board.Board.{Board}
-use Rattle.service_board.proofs.Closable.{same_but_running}
+use Rattle.stream_entries.proofs.Closable.{same_but_running}
 use Rattle.service_board.proofs.StreamMoves.{move_done, order_kept, rested_at, sets_one}
 use Rattle.service_board.proofs.StreamRows.{Opened}
 

@@ -16,7 +16,7 @@ use Rattle.session_manager.specs.Sessions.{SessionList, is_session, session_at}
 use Rattle.ca_machine.specs.declared.state.Client.{Client}
 use Rattle.period_engine.specs.declared.entry.StreamEntry.{StreamEntry}
 use Rattle.service_book.specs.Gains.{gains_by}
-use Rattle.service_book.specs.InOrder.{HasLevels, IsBook}
+use Rattle.service_book.specs.InOrder.{IsBook}
 use Rattle.service_book.specs.declared.book.Book.{Book}
 use Rattle.service_board.specs.Gains.{changes_gains}
 use Rattle.service_board.specs.InOrder.{Belongs, InOrder}

@@ -1,5 +1,5 @@
 -- Calls that move the stream of one entry, and what they leave in order.
-use Rattle.std.proofs.Common.{◌≡◌, ℕ, ◌≤◌, ◌==◌, ◌&&◌, List, [], ◌∷◌, map, set, get_or, Bool}
+use Rattle.std.proofs.Common.{◌≡◌, ℕ, ◌≤◌, ◌==◌, ◌&&◌, List, [], ◌∷◌, map, set, get_or}
 use Rattle.std.proofs.Common.{Option, Some, None, refl, sym, ap, ap₂, subst, ◌∙◌, if◌then◌else◌, arith, eq-eqb}
 use Rattle.std.specs.List.{All, AllZip, find, slice_get}
 use Rattle.std.specs.Vec.{vec_capacity, with_item}
@@ -36,7 +36,6 @@ use Rattle.period_engine.specs.SubSteps.{IsSameEntry}
 use Rattle.service_book.specs.BookState.{book_state}
 use Rattle.service_board.specs.Board.{playhead_of, state_of}
 use Rattle.service_board.specs.Does.{Does, Made, after_steps, layout_at, store_at}
-use Rattle.ca_base.specs.declared.ids.EndpointNo.{EndpointNo}
 use Rattle.service_book.specs.InOrder.{IsBook}
 use Rattle.service_book.specs.Gains.{gains_by}
 use Rattle.service_book.specs.declared.book.Book.{Book}

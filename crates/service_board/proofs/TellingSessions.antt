@@ -1,12 +1,11 @@
 -- What calls tell of sessions.
-use Rattle.std.proofs.Common.{◌≡◌, ℕ, ◌==◌, ◌&&◌, List, [], ◌∷◌, ◌++◌, Bool}
-use Rattle.std.proofs.Common.{true, false, Option, Some, None, is_none, is_some, not, refl, sym, ap, ap₂, ◌∙◌}
+use Rattle.std.proofs.Common.{◌≡◌, ℕ, List, [], ◌∷◌, ◌++◌, Bool}
+use Rattle.std.proofs.Common.{true, false, Option, Some, None, is_none, is_some, not, refl, sym, ap, ◌∙◌}
 use Rattle.std.proofs.Common.{if◌then◌else◌}
-use Rattle.std.specs.List.{find, list_any, position}
+use Rattle.std.specs.List.{find, position}
 use Rattle.device_io.specs.DeviceLog.{DeviceLog}
 use Rattle.ca_base.specs.declared.codes.Hr.{Hr}
 use Rattle.ca_base.specs.declared.codes.TheConstants.Hr as hr
-use Rattle.ca_base.specs.declared.values.TheConstants.{SESSION_ACTIVE, SESSION_EXPIRED, SESSION_INACTIVE}
 use Rattle.ca_base.specs.Rows.{Row, first}
 use Rattle.buffer_ring.specs.declared.step.StoreStep.{StoreStep}
 use Rattle.ca_stage.specs.Stage.{BufferData}
@@ -20,8 +19,7 @@ use Rattle.ca_machine.specs.Plan.{Outcome, answered, plain}
 use Rattle.ca_machine.specs.SharedRows.{control_rows}
 use Rattle.ca_machine.specs.Sessions.{enum_sessions_plan, get_session_plan, numbers_payload, session_payload}
 use Rattle.ca_machine.specs.Sessions.{state_of_session, with_session}
-use Rattle.period_engine.specs.declared.entry.StreamEntry.{StreamEntry}
-use Rattle.period_engine.specs.Entries.{stream_of, streams_of}
+use Rattle.period_engine.specs.Entries.{streams_of}
 use Rattle.service_book.proofs.Finding.{found_at, none_at}
 use Rattle.service_board.specs.Board.{state_of}
 use Rattle.service_board.specs.Does.{AnyData, Does}
@@ -29,19 +27,7 @@ use Rattle.service_board.specs.Lookups.{Says}
 use Rattle.service_board.specs.declared.board.Board.{Board}
 use Rattle.service_board.proofs.PlainEvents.{refused_does}
 use Rattle.service_board.proofs.EndpointCalls.{plain_tells}
-use Rattle.service_board.proofs.KeptEntries.{any_mapped}
 use Rattle.service_board.proofs.LookingUp.{says_front, says_later}
-
--- the state of a session, by its entries
-pub state_by : {E : Type 0} (session : ℕ) (entries : List (StreamEntry E)) (runs has : Bool) →
-    list_any (λ e. e.session.0 == session && e.running) entries ≡ runs →
-    list_any (λ e. e.session.0 == session) entries ≡ has → (datas : ℕ → BufferData) →
-    (if runs then SESSION_ACTIVE else if has then SESSION_INACTIVE else SESSION_EXPIRED)
-    ≡ state_of_session session (streams_of datas entries)
-state_by session entries runs has r h datas = sym
-    (ap₂ (λ v w. if v then SESSION_ACTIVE else if w then SESSION_INACTIVE else SESSION_EXPIRED)
-    (any_mapped (λ s. s.session == session && s.running) (stream_of datas) entries ∙ r)
-    (any_mapped (λ s. s.session == session) (stream_of datas) entries ∙ h))
 
 -- whether an endpoint is there, by its place
 pub endpoint_tested : (endpoint : ℕ) (list : List Endpoint) (place : Option ℕ) →

@@ -24,7 +24,8 @@ use Rattle.service_book.specs.Lookups.{IsActiveAt, LacksActive}
 use Rattle.service_book.specs.declared.book.Book.{Book}
 use Rattle.service_book.proofs.Finding.{find_mapped, found_at, none_at}
 use Rattle.service_board.specs.Board.{state_of}
-use Rattle.service_board.specs.Lookups.{FindsEndpoint, Says, is_disconnected, is_entry_of}
+use Rattle.service_board.specs.Lookups.{FindsEndpoint, Says, is_disconnected}
+use Rattle.stream_entries.specs.Search.{is_entry_of}
 use Rattle.service_board.specs.declared.board.Board.{Board}
 use Rattle.service_board.proofs.LookingUp.{says_front}
 

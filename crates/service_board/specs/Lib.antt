@@ -5,11 +5,9 @@ pub mod Does
 pub mod Calls
 pub mod Lookups
 pub mod New
-pub mod Closing
 pub mod Plays
 pub mod NamedEndpoints
 pub mod Due
-pub mod Events
 pub mod StreamCalls
 pub mod Leaving
 pub mod Openings

@@ -1,5 +1,5 @@
 -- What look-ups of a call find, and the rows that refuse it if they don't (this project's own).
-use Rattle.std.specs.Prelude.{◌≡◌, ℕ, ◌-◌, ◌<◌, ◌==◌, ◌++◌, List, length, Bool, false, not, Option, Some, None}
+use Rattle.std.specs.Prelude.{◌≡◌, ℕ, ◌-◌, ◌<◌, ◌++◌, List, length, Bool, false, not, Option, Some, None}
 use Rattle.std.specs.Prelude.{slice_get}
 use Rattle.std.specs.List.{find}
 use Rattle.std.specs.Option.{option_map_or}
@@ -16,6 +16,7 @@ use Rattle.ca_machine.specs.Streams.{endpoint_rows}
 use Rattle.period_engine.specs.declared.entry.StreamEntry.{StreamEntry}
 use Rattle.period_engine.specs.Entries.{stream_of}
 use Rattle.service_book.specs.Lookups.{IsActiveAt}
+use Rattle.stream_entries.specs.Search.{is_entry_of}
 use Rattle.service_board.specs.Board.{state_of}
 use Rattle.service_board.specs.declared.board.Board.{Board}
 
@@ -51,10 +52,6 @@ pub record FindsNotices {D E : Type 0} (conn : ℕ) (rows : State → List (Row 
     pub place : at ≡ conn - 1
     pub within : at < length b.book.notices.items
     pub says : Says b rows None
-
--- the entry of a client
-abbrev pub is_entry_of : {E : Type 0} → ℕ → StreamEntry E → Bool
-is_entry_of client e = e.client.0 == client
 
 -- at this place stands the entry of a client's stream, which is open, and none of those rows holds
 pub record FindsStream {D E : Type 0} (conn client : ℕ) (b : Board D E) (at : ℕ) : Type 0 where

@@ -16,12 +16,13 @@ use Rattle.ca_machine.specs.declared.state.Connection.{Connection}
 use Rattle.ca_machine.specs.State.{is_client_of, is_connection}
 use Rattle.device_registry.specs.Endpoints.{is_endpoint}
 use Rattle.ca_machine.specs.Data.{dir_of}
-use Rattle.ca_machine.specs.Streams.{has_event, initialize_rows, kind_opened, shared_buffer, words_stored}
+use Rattle.ca_machine.specs.Openings.{has_event, initialize_rows, kind_opened, shared_buffer, words_stored}
 use Rattle.period_engine.specs.declared.entry.StreamEntry.{StreamEntry}
 use Rattle.service_book.specs.declared.opening.Opening.{Opening as Asked}
 use Rattle.service_book.specs.declared.opening.OpeningPlan.{OpeningPlan}
 use Rattle.service_book.specs.Openings.{key_by, arguments, HasFormat}
-use Rattle.service_board.specs.Lookups.{Says, is_entry_of}
+use Rattle.service_board.specs.Lookups.{Says}
+use Rattle.stream_entries.specs.Search.{is_entry_of}
 use Rattle.service_board.specs.declared.board.Board.{Board}
 
 -- the entry of a stream as it is opened

@@ -20,7 +20,7 @@ use Rattle.period_engine.specs.Entries.{HasRoom, IsFeedable, IsRested, is_heard,
 use Rattle.period_engine.specs.Offers.{Offers}
 use Rattle.period_engine.specs.Sounds.{MixesThese, Sounds}
 use Rattle.period_engine.specs.SubSteps.{IsSameEntry, Turned, picks_on, retires_on}
-use Rattle.service_board.specs.Closing.{closes_within}
+use Rattle.stream_entries.specs.Closing.{closes_within}
 use Rattle.service_board.specs.Does.{store_at}
 
 -- A period of an endpoint as far as its Sound: what is due was picked, mixed and offered to the endpoint's device.

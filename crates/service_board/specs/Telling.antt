@@ -1,34 +1,17 @@
 -- What is noted of a board, and the notices that it tells (this project's own).
-use Rattle.std.specs.Prelude.{◌≡◌, ℕ, List, map, Bool, false, if◌then◌else◌}
+use Rattle.std.specs.Prelude.{◌≡◌, ℕ, Bool, false, if◌then◌else◌}
 use Rattle.std.specs.Prelude.{Result, Ok, Err}
 use Rattle.ca_base.specs.declared.codes.Hr.{Hr}
-use Rattle.step_notices.specs.declared.records.NotedStream.{NotedStream}
 use Rattle.step_notices.specs.Notes.{Notes}
 use Rattle.ca_stage.specs.Stage.{BufferData}
 use Rattle.ca_stage.specs.Tally.{Tally}
-use Rattle.ca_machine.specs.Notices.{noted, noted_endpoint, noted_session}
-use Rattle.period_engine.specs.declared.entry.StreamEntry.{StreamEntry}
+use Rattle.ca_machine.specs.Notices.{noted}
 use Rattle.reply_payload.specs.Answers.{is_failure}
 use Rattle.reply_payload.specs.declared.payload.Payload.{Payload}
-use Rattle.service_book.specs.declared.book.Book.{Book}
-use Rattle.service_book.specs.Telling.{defaults_of}
 use Rattle.service_board.specs.Board.{state_of}
 use Rattle.service_board.specs.declared.board.Board.{Board}
 
 -- ---- what is noted
-
--- the stream of an entry
-abbrev pub noted_entry : {E : Type 0} → StreamEntry E → NotedStream
-noted_entry e = record { client = e.client; session = e.session; running = e.running; gate = e.gate }
-
--- a book, with the streams of these entries
-abbrev pub noted_with : {E : Type 0} → Book → List (StreamEntry E) → Notes
-noted_with book entries = record {
-  endpoints = map noted_endpoint book.registry.list;
-  defaults = defaults_of book;
-  sessions = map noted_session book.sessions.list;
-  streams = map noted_entry entries;
-}
 
 -- a period's answer says that its device failed
 abbrev pub has_failed : Result Payload Hr → Bool

@@ -12,7 +12,6 @@ ghost use Rattle.service_board.specs.InOrder.{InOrder, is_seat};
 ghost use Rattle.service_board.specs.Lookups.{Says};
 ghost use Rattle.service_board.specs.NamedEndpoints.{FindsNamed};
 
-use crate::closing::disconnect;
 use crate::{Board, Seat};
 use buffer_ring::EngineSide;
 use ca_base::{EndpointNo, Hr, Reason, Text};
@@ -25,6 +24,7 @@ use service_book::{
     with_format, with_name,
 };
 use std::alloc::Global;
+use stream_entries::disconnect;
 use wave_format::{Format, read_format};
 
 /// Takes the seat of an endpoint away.

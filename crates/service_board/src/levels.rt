@@ -1,6 +1,6 @@
 //! Levels of a stream's channels (IAudioStreamVolume), from 0 to 65536.
 
-ghost use Rattle.std.specs.Prelude.{◌≡◌, None};
+ghost use Rattle.std.specs.Prelude.{None};
 ghost use Rattle.ca_machine.specs.Streams.{get_stream_level_plan, set_stream_level_plan};
 ghost use Rattle.reply_payload.specs.Answers.{code_of, payload_of};
 ghost use Rattle.service_board.specs.Does.{AnyData, Does};

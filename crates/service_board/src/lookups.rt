@@ -6,18 +6,14 @@ ghost use Rattle.std.specs.List.{position};
 ghost use Rattle.ca_machine.specs.SharedRows.{connection_rows, control_rows, shut_rows};
 ghost use Rattle.service_board.specs.InOrder.{InOrder};
 ghost use Rattle.service_board.specs.Lookups.{FindsClient, FindsStream, Says};
-ghost use Rattle.service_board.specs.Lookups.{
-  client_call_rows,
-  client_control_rows,
-  is_entry_of,
-  stream_call_rows,
-};
+ghost use Rattle.service_board.specs.Lookups.{client_call_rows, client_control_rows, stream_call_rows};
+ghost use Rattle.stream_entries.specs.Search.{is_entry_of};
 
 use crate::Board;
-use crate::search::entry_at;
 use buffer_ring::EngineSide;
 use ca_base::{ClientNo, ConnNo, Hr};
 use client_state::gate_refusal;
+use stream_entries::entry_at;
 
 impl<D, E: EngineSide> Board<D, E> {
     /// The place of a client's entry.

@@ -14,7 +14,6 @@ ghost use Rattle.service_board.specs.Lookups.{Says};
 ghost use Rattle.service_board.specs.Telling.{NotesFailure};
 
 use crate::Board;
-use crate::events::{set_events, set_recorded_events};
 use crate::plays::{close_failed, play};
 use buffer_ring::EngineSide;
 use ca_base::limits::{MAX_COUNT, MAX_LEVEL};
@@ -26,6 +25,7 @@ use device_registry::Endpoint;
 use period_engine::{StreamEntry, feed_capture, feed_loopback, retire};
 use reply_payload::Payload;
 use service_book::period_frames;
+use stream_entries::{set_events, set_recorded_events};
 
 /// The gain of each channel of an endpoint: none changes anything.
 const END_GAINS: [u32; 4] = [MAX_LEVEL; 4];

@@ -8,18 +8,17 @@ ghost use Rattle.ca_base.specs.declared.limits.TheConstants.{CLIENTS};
 ghost use Rattle.period_engine.specs.Entries.{AreEntries, IsPicked, IsRested};
 ghost use Rattle.period_engine.specs.Sounds.{AreEnds, IsSameSize};
 ghost use Rattle.period_engine.specs.SubSteps.{Turned};
-ghost use Rattle.service_board.specs.Closing.{IsClosable, closes_within};
+ghost use Rattle.stream_entries.specs.Closing.{IsClosable, closes_within};
 ghost use Rattle.service_board.specs.Plays.{IsPlayable, PicksAndSounds};
-ghost use Rattle.service_board.specs.Telling.{noted_with};
+ghost use Rattle.stream_entries.specs.Noting.{noted_with};
 
-use crate::closing::close_all;
-use crate::noting::noted_of;
 use buffer_ring::EngineSide;
 use ca_base::{EndpointNo, Failed, Reason};
 use device_io::Devices;
 use period_engine::{Block, StreamEntry, pick, sound};
 use service_book::Book;
 use step_notices::Noted;
+use stream_entries::{close_all, noted_of};
 
 /// Plays what is due in a period of endpoint `e`, of `p` frames, over all entries: it is picked, mixed and offered to
 /// the endpoint's device. What was picked is still to be rendered, or closed if the device failed. `ends` has the gain

@@ -12,13 +12,13 @@ ghost use Rattle.service_board.specs.InOrder.{InOrder};
 ghost use Rattle.service_board.specs.Lookups.{FindsNotices, Says};
 
 use crate::Board;
-use crate::events::take_events;
 use buffer_ring::EngineSide;
 use ca_base::{Bytes, ConnNo, Hr};
 use ca_machine::Client;
 use device_io::Devices;
 use event_notices::NoticeFault;
 use reply_payload::{Payload, REPLY_ROOM, put_notices};
+use stream_entries::take_events;
 
 impl<D, E: EngineSide> Board<D, E> {
     /// The place in the book of the notices of a call's connection, which is open. The call is answered after a

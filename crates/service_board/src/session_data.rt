@@ -1,52 +1,18 @@
 //! What calls tell of sessions (IAudioSessionEnumerator, IAudioSessionControl2).
 
-ghost use Rattle.std.specs.Prelude.{◌≡◌, ℕ, ◌≤◌, ◌==◌, ◌&&◌, [], None, length};
-ghost use Rattle.std.specs.List.{list_any};
-ghost use Rattle.ca_stage.specs.Stage.{BufferData};
+ghost use Rattle.std.specs.Prelude.{◌≡◌, ◌≤◌, [], None, length};
 ghost use Rattle.ca_machine.specs.Sessions.{enum_sessions_plan, get_session_plan, state_of_session};
-ghost use Rattle.period_engine.specs.Entries.{streams_of};
 ghost use Rattle.reply_payload.specs.Answers.{told_code};
 ghost use Rattle.service_board.specs.Does.{AnyData, Does};
 ghost use Rattle.service_board.specs.InOrder.{InOrder};
 ghost use Rattle.reply_payload.specs.declared.payload.TheConstants.{REPLY_ROOM};
 
 use crate::Board;
-use crate::leaving::is_in_use;
 use buffer_ring::EngineSide;
-use ca_base::values::{SESSION_ACTIVE, SESSION_EXPIRED, SESSION_INACTIVE};
 use ca_base::{Bytes, ConnNo, EndpointNo, Hr, SessionNo};
 use device_io::Devices;
-use period_engine::StreamEntry;
 use reply_payload::{REPLY_ROOM, put_session, put_sessions_of};
-
-/// Whether a stream is of this session and runs.
-fn runs_in<E>(entry: &StreamEntry<E>, session: SessionNo) -> bool
-    ensures { result ≡ (entry.now.session.0 == session.0 && entry.now.running) }
-{
-    entry.session == session && entry.running
-}
-
-/// Whether one of these streams is of this session and runs.
-fn is_running<E>(entries: &[StreamEntry<E>], session: SessionNo) -> bool
-    ensures { result ≡ list_any (λ e. e.session.0 == session.0 && e.running) entries.now }
-{
-    entries.iter().any(|e| runs_in(e, session))
-}
-
-/// AudioSessionState of a session: active while a stream of it runs, inactive while it has streams and none runs, and
-/// else expired.
-fn state_of_session<E>(entries: &[StreamEntry<E>], session: SessionNo) -> u8
-    ensures { (datas : ℕ → BufferData) → result ≡ state_of_session session.0 (streams_of datas entries.now) }
-{
-    if is_running(entries, session) {
-        return SESSION_ACTIVE;
-    }
-    if is_in_use(entries, session) {
-        SESSION_INACTIVE
-    } else {
-        SESSION_EXPIRED
-    }
-}
+use stream_entries::state_of_session;
 
 impl<D: Devices, E: EngineSide> Board<D, E> {
     /// IAudioSessionEnumerator: how many sessions an endpoint has, and their numbers, in the order in which they were

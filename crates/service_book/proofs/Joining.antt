@@ -12,7 +12,7 @@ use Rattle.ca_base.specs.Rows.{first}
 use Rattle.wave_format.specs.declared.format.Format.{Format}
 use Rattle.wave_format.specs.declared.format.FormatFault.{FormatFault}
 use Rattle.wave_format.specs.Format.{unless_fault}
-use Rattle.ca_machine.specs.Streams.{matches}
+use Rattle.ca_machine.specs.Formats.{matches}
 use Rattle.service_book.proofs.Finding.{found_at}
 
 -- what is read at the first place that passes is what is found

@@ -6,7 +6,7 @@ use Rattle.ca_base.specs.declared.codes.TheConstants.Hr as hr
 use Rattle.wave_format.specs.declared.format.Format.{Format}
 use Rattle.wave_format.specs.declared.format.FormatFault.{FormatFault}
 use Rattle.wave_format.specs.Format.{format_at, spelled, unless_fault}
-use Rattle.ca_machine.specs.Streams.{fault_of, matches}
+use Rattle.ca_machine.specs.Formats.{fault_of, matches}
 use Rattle.service_book.specs.Formats.{TellsSupport}
 use Rattle.reply_payload.specs.declared.payload.Payload.{Payload}
 use Rattle.reply_payload.specs.declared.payload.Payload.TheVariants as payload

@@ -4,7 +4,7 @@ use Rattle.ca_base.specs.declared.codes.Hr.{Hr}
 use Rattle.ca_base.specs.declared.codes.TheConstants.Hr as hr
 use Rattle.wave_format.specs.declared.format.Format.{Format}
 use Rattle.wave_format.specs.Format.{spelled}
-use Rattle.ca_machine.specs.Streams.{is_faulty, is_malformed, matches}
+use Rattle.ca_machine.specs.Formats.{is_faulty, is_malformed, matches}
 use Rattle.reply_payload.specs.declared.payload.Payload.{Payload}
 use Rattle.reply_payload.specs.declared.payload.Payload.TheVariants as payload
 

@@ -16,8 +16,9 @@ use Rattle.session_manager.specs.Sessions.{joined, number_joined}
 use Rattle.ca_machine.specs.declared.state.Connection.{Connection}
 use Rattle.ca_machine.specs.State.{State}
 use Rattle.ca_machine.specs.Plan.{Plan}
-use Rattle.ca_machine.specs.Streams.{Opening, has_loopback, has_other_flag, initialize_plan, is_cross_process}
-use Rattle.ca_machine.specs.Streams.{is_faulty, is_kept, is_malformed, is_too_long, matches}
+use Rattle.ca_machine.specs.Openings.{Opening, has_loopback, has_other_flag, initialize_plan, is_cross_process}
+use Rattle.ca_machine.specs.Openings.{is_kept, is_too_long}
+use Rattle.ca_machine.specs.Formats.{is_faulty, is_malformed, matches}
 use Rattle.service_book.specs.declared.book.Book.{Book}
 use Rattle.service_book.specs.declared.opening.Opening.{Opening as Asked}
 use Rattle.service_book.specs.declared.opening.OpeningPlan.{OpeningPlan}

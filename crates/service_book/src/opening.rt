@@ -5,8 +5,9 @@ ghost use Rattle.std.specs.Result.{result_err};
 ghost use Rattle.ca_base.specs.declared.limits.TheConstants.{MAX_STORE_WORDS};
 ghost use Rattle.ca_base.specs.Rows.{first};
 ghost use Rattle.wave_format.specs.Format.{frames_of_time, is_listed};
-ghost use Rattle.ca_machine.specs.Streams.{has_event, has_loopback, has_other_flag, is_cross_process, is_kept};
-ghost use Rattle.ca_machine.specs.Streams.{kind_opened, later_rows, matches, shared_buffer, words_stored};
+ghost use Rattle.ca_machine.specs.Openings.{has_event, has_loopback, has_other_flag, is_cross_process, is_kept};
+ghost use Rattle.ca_machine.specs.Openings.{kind_opened, later_rows, shared_buffer, words_stored};
+ghost use Rattle.ca_machine.specs.Formats.{matches};
 ghost use Rattle.service_book.specs.Openings.{HasFormat, argument_rows, arguments, flow_rows, format_rows, key_by};
 
 use ca_base::limits::{MAX_SHARED_BUFFER_SECONDS, MAX_TIME, SHARED_PERIOD};

@@ -29,7 +29,7 @@ use Rattle.reply_payload.specs.declared.payload.TheConstants.{REPLY_ROOM}
 use Rattle.service_book.specs.BookState.{book_state}
 use Rattle.service_board.specs.Board.{state_of, playhead_of}
 use Rattle.service_board.specs.Does.{Does, Made, Answered, after_steps, layout_at, no_layout, store_at}
-use Rattle.service_board.specs.Lookups.{is_entry_of}
+use Rattle.stream_entries.specs.Search.{is_entry_of}
 use Rattle.service_board.specs.declared.board.Board.{Board}
 use Rattle.service_core.specs.BothEnds.{MovesStore}
 use Rattle.service_core.specs.Core.{ArePackets, Goes, HasSide, HaveSides, IsFresh, core_data, core_datas, core_state}

@@ -6,7 +6,8 @@ use Rattle.ca_base.specs.declared.codes.TheConstants.Hr as hr
 use Rattle.ca_base.specs.Rows.{first}
 use Rattle.ca_stage.specs.Moves.{stream_at}
 use Rattle.ca_machine.specs.Data.{data_rows}
-use Rattle.service_board.specs.Lookups.{Says, client_call_rows, is_entry_of}
+use Rattle.service_board.specs.Lookups.{Says, client_call_rows}
+use Rattle.stream_entries.specs.Search.{is_entry_of}
 use Rattle.service_board.specs.declared.board.Board.{Board}
 use Rattle.service_core.specs.DataCalls.{FindsEntry, RefusesData}
 use Rattle.service_book.proofs.Finding.{found_at, none_at}

@@ -19,7 +19,7 @@ use Rattle.ca_machine.specs.Plan.{Answer, Outcome, if_found, moved, outcome_of}
 use Rattle.ca_machine.specs.Plan.Answer.{out_of_memory}
 use Rattle.ca_machine.specs.Devices.{disconnects, disconnects_if, is_within, leaves_active, shutdown_plan}
 use Rattle.ca_machine.specs.Devices.{with_endpoint_format, with_endpoint_state, with_named}
-use Rattle.ca_machine.specs.Streams.{matches}
+use Rattle.ca_machine.specs.Formats.{matches}
 use Rattle.ca_machine.specs.Step.{device_plan}
 use Rattle.service_core.specs.Counting.{HasCounts}
 use Rattle.service_core.proofs.TallyFalls.{closes_count, open_padding, open_pads}

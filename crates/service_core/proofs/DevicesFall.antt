@@ -12,7 +12,7 @@ use Rattle.ca_stage.proofs.MapMoves.{moves_of}
 use Rattle.ca_machine.specs.State.{State, endpoint_at}
 use Rattle.ca_machine.specs.Devices.{disconnects, disconnects_if, is_within, leaves_active, shutdown_plan}
 use Rattle.ca_machine.specs.Devices.{with_endpoint_format, with_endpoint_state}
-use Rattle.ca_machine.specs.Streams.{matches}
+use Rattle.ca_machine.specs.Formats.{matches}
 use Rattle.ca_machine.specs.Step.{device_plan}
 use Rattle.service_core.proofs.PlansFall.{Keeps, keeps_memory, keeps_plain, of_named}
 use Rattle.service_core.proofs.StreamsFall.{IsControl, all_still, all_moved}

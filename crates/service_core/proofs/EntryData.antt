@@ -13,7 +13,7 @@ use Rattle.period_engine.specs.declared.entry.StreamEntry.{StreamEntry}
 use Rattle.period_engine.specs.Agreement.{layout_of}
 use Rattle.period_engine.specs.Entries.{AreInOrder, stream_of, streams_of}
 use Rattle.service_board.specs.Does.{layout_at, no_layout, store_at}
-use Rattle.service_board.specs.Lookups.{is_entry_of}
+use Rattle.stream_entries.specs.Search.{is_entry_of}
 use Rattle.service_core.specs.Core.{core_data, core_datas}
 use Rattle.service_core.specs.declared.both_ends.BothEnds.{BothEnds}
 

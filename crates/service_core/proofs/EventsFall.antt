@@ -28,9 +28,12 @@ use Rattle.ca_machine.specs.Plan.{Answer, answered, bytes_given, moved, is_whole
 use Rattle.ca_machine.specs.SharedRows.{endpoint_of, with_endpoint}
 use Rattle.ca_machine.specs.Clients.{closes, leaving, hangup_plan, is_client_on, without_connection}
 use Rattle.ca_machine.specs.Endpoints.{default_at, endpoint_named, endpoint_told, number_told}
-use Rattle.ca_machine.specs.Streams.{Opening, endpoint_channels, flow_of, initialized, is_kept, joined_by, new_stream}
-use Rattle.ca_machine.specs.Streams.{position_of, session_key, stream_level, supported, is_faulty, matches}
-use Rattle.ca_machine.specs.Streams.{format_payload, with_handle, with_stream_level}
+use Rattle.ca_machine.specs.Openings.{Opening, endpoint_channels, flow_of, initialized, is_kept, joined_by, new_stream}
+use Rattle.ca_machine.specs.Streams.{position_of, stream_level, supported}
+use Rattle.ca_machine.specs.Openings.{session_key}
+use Rattle.ca_machine.specs.Formats.{is_faulty, matches}
+use Rattle.ca_machine.specs.Streams.{with_handle, with_stream_level}
+use Rattle.ca_machine.specs.Formats.{format_payload}
 use Rattle.ca_machine.specs.Data.{next_packet_size}
 use Rattle.ca_machine.specs.Sessions.{session_payload, state_of_session, with_session}
 use Rattle.ca_machine.specs.Periods.{after_period, after_recording, mixing_of, period_by, period_frames, period_of}

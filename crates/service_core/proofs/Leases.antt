@@ -12,7 +12,7 @@ use Rattle.period_engine.specs.Packed.{packets_in}
 use Rattle.client_state.specs.Frames.{frames_in}
 use Rattle.service_board.specs.Does.{layout_at}
 use Rattle.service_board.specs.StreamCalls.{IsOfKind}
-use Rattle.service_board.specs.Lookups.{is_entry_of}
+use Rattle.stream_entries.specs.Search.{is_entry_of}
 use Rattle.service_core.specs.Core.{core_data, core_datas, data_in}
 use Rattle.service_core.specs.declared.both_ends.BothEnds.{BothEnds}
 use Rattle.service_book.proofs.Finding.{found_at, none_at}

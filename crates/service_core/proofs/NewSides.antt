@@ -20,7 +20,7 @@ use Rattle.service_book.specs.declared.opening.Opening.{Opening as Asked}
 use Rattle.service_book.specs.declared.opening.OpeningPlan.{OpeningPlan}
 use Rattle.service_board.specs.declared.board.Board.{Board}
 use Rattle.reply_payload.specs.declared.payload.Payload.{Payload}
-use Rattle.service_board.specs.Lookups.{is_entry_of}
+use Rattle.stream_entries.specs.Search.{is_entry_of}
 use Rattle.service_board.specs.Openings.{Enters, IsNewStore, new_entry}
 use Rattle.service_core.specs.declared.both_ends.BothEnds.{BothEnds}
 use Rattle.service_core.specs.Core.{AreNewEnds, HasSide, HaveSides, IsFresh, core_data, core_datas, new_side}

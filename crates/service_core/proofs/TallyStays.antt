@@ -23,8 +23,11 @@ use Rattle.ca_machine.specs.Clients.{open_plan}
 use Rattle.ca_machine.specs.Endpoints.{default_at, device_info_plan, endpoint_named, endpoint_told, enum_endpoints_plan}
 use Rattle.ca_machine.specs.Endpoints.{number_told}
 use Rattle.ca_machine.specs.Registrations.{take_notices_plan}
-use Rattle.ca_machine.specs.Streams.{Opening, initialize_plan, initialized, supported, is_faulty, matches}
-use Rattle.ca_machine.specs.Streams.{format_payload, with_handle, with_stream_level}
+use Rattle.ca_machine.specs.Streams.{supported}
+use Rattle.ca_machine.specs.Openings.{Opening, initialize_plan, initialized}
+use Rattle.ca_machine.specs.Formats.{is_faulty, matches}
+use Rattle.ca_machine.specs.Streams.{with_handle, with_stream_level}
+use Rattle.ca_machine.specs.Formats.{format_payload}
 use Rattle.ca_machine.specs.Sessions.{enum_sessions_plan, get_session_plan, session_payload, state_of_session}
 use Rattle.ca_machine.specs.Sessions.{with_session}
 use Rattle.ca_machine.specs.Data.{capture_get_buffer_plan, capture_release_buffer_plan, first_packet, frames_released}

@@ -1,7 +1,7 @@
 use Rattle.std.proofs.Common.{◌≡◌}
 use Rattle.event_notices.specs.Notices.{pushed_all}
 use Rattle.period_engine.proofs.Passes.{Alone, none_passed, one_passed}
-use Rattle.service_board.proofs.Tellings.{mapped}
+use Rattle.stream_entries.proofs.MappedLists.{mapped}
 use Rattle.service_board.proofs.telling.push_to_each.Goals as goal
 
 pub loop-q-init : goal.loop-q-init

@@ -3,7 +3,8 @@ use Rattle.std.proofs.lemmas.Result.{err_from_is_err_and}
 use Rattle.ca_base.specs.declared.codes.TheConstants.Hr as hr
 use Rattle.ca_machine.specs.Plan.{answered}
 use Rattle.ca_machine.specs.SharedRows.{control_rows}
-use Rattle.ca_machine.specs.Streams.{endpoint_rows, format_payload, get_mix_format_plan}
+use Rattle.ca_machine.specs.Streams.{endpoint_rows, get_mix_format_plan}
+use Rattle.ca_machine.specs.Formats.{format_payload}
 use Rattle.service_board.specs.Board.{state_of}
 use Rattle.service_board.specs.Does.{AnyData}
 use Rattle.service_board.proofs.PlainEvents.{refused_does}

@@ -3,7 +3,8 @@ use borrow.Author.Tests.{lt-ltb}
 use Rattle.std.proofs.lemmas.Result.{err_from_is_err_and}
 use Rattle.ca_base.specs.declared.codes.TheConstants.Hr as hr
 use Rattle.ca_base.specs.declared.values.TheConstants.{SHARE_EXCLUSIVE}
-use Rattle.ca_machine.specs.Streams.{is_format_supported_plan, is_malformed}
+use Rattle.ca_machine.specs.Streams.{is_format_supported_plan}
+use Rattle.ca_machine.specs.Formats.{is_malformed}
 use Rattle.service_board.specs.Does.{AnyData}
 use Rattle.service_board.proofs.PlainEvents.{refused_does}
 use Rattle.service_board.proofs.FormatRows.{by_arguments, exclusive, tells_support, unconnected, unusable}

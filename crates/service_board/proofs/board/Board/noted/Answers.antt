@@ -1,6 +1,6 @@
 use Rattle.std.proofs.Common.{◌≤◌, length, sym, ap, subst, ◌∙◌}
 use Rattle.ca_base.specs.declared.limits.TheConstants.{CLIENTS}
-use Rattle.service_board.specs.Telling.{noted_with}
+use Rattle.stream_entries.specs.Noting.{noted_with}
 use Rattle.service_board.proofs.NotedStates.{few_entries, noted_board}
 use Rattle.service_board.proofs.board.Board.noted.Goals as goal
 

@@ -4,7 +4,7 @@ use Rattle.ca_base.specs.declared.codes.TheConstants.Hr as hr
 use Rattle.ca_base.specs.Rows.{first}
 use Rattle.session_manager.specs.Rows.{join_rows}
 use Rattle.ca_machine.specs.State.{is_connection}
-use Rattle.ca_machine.specs.Streams.{words_stored}
+use Rattle.ca_machine.specs.Openings.{words_stored}
 use Rattle.service_book.proofs.Joining.{found_there}
 use Rattle.service_board.proofs.OpeningRows.{at_arguments, at_control, at_endpoint, at_flow, at_format, at_later}
 use Rattle.service_board.proofs.OpeningRows.{at_session, at_stream}

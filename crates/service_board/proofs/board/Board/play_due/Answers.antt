@@ -1,7 +1,7 @@
 use Rattle.std.proofs.Common.{◌∙◌, length, map, refl, false, arith, sym, ap}
 use Rattle.std.proofs.lemmas.Option.{none-some}
-use Rattle.service_board.specs.Events.{with_event}
-use Rattle.service_board.proofs.Closable.{picked_closable}
+use Rattle.stream_entries.specs.Events.{with_event}
+use Rattle.stream_entries.proofs.Closable.{picked_closable}
 use Rattle.service_board.proofs.PeriodEnds.{failed_ends, whole_ends}
 use Rattle.service_board.proofs.PeriodNeeds.{block_fits, end_gains, endpoint_within, entries_feed, entries_playable}
 use Rattle.service_board.proofs.PeriodNeeds.{feed_fits, few_channels, its_ends, next_fits, no_state_row, same_size}

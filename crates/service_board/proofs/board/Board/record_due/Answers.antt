@@ -1,8 +1,8 @@
 use Rattle.std.proofs.Common.{◌∙◌, ◌==◌, map, refl, sym, ap, if◌then◌else◌}
 use Rattle.std.proofs.lemmas.Option.{none-some}
-use Rattle.service_board.specs.Events.{with_event}
+use Rattle.stream_entries.specs.Events.{with_event}
 use Rattle.service_board.proofs.PeriodNeeds.{entries_record, no_state_row, record_fits}
-use Rattle.service_board.specs.Events.{with_event}
+use Rattle.stream_entries.specs.Events.{with_event}
 use Rattle.service_board.proofs.PeriodNeeds.{some_frame}
 use Rattle.service_board.proofs.PeriodNotes.{noted_read}
 use Rattle.service_board.proofs.RecordEnds.{idle_does, lost_ends, none_read, recorded_ends, some_read}

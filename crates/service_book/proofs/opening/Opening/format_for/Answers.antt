@@ -1,7 +1,7 @@
 use Rattle.std.proofs.Common.{false, sym, true}
 use Rattle.wave_format.specs.Format.{spelled}
 use Rattle.wave_format.proofs.FormatLaws.{read-valid}
-use Rattle.ca_machine.specs.Streams.{fault_of}
+use Rattle.ca_machine.specs.Formats.{fault_of}
 use Rattle.service_book.proofs.Joining.{faulty_says, format_says, malformed_says, matched_channels, matched_rate}
 use Rattle.service_book.proofs.Joining.{read_format_is}
 use Rattle.service_book.proofs.opening.Opening.format_for.Goals as goal

@@ -1,7 +1,0 @@
-use Rattle.std.proofs.Common.{◌≡◌, map, take}
-use Rattle.service_board.specs.Telling.{noted_entry}
-use Rattle.service_board.proofs.noting.note_streams.Given as goal
-
--- the streams so far are noted
-abbrev pub invariant-entries : goal.invariant-entries
-invariant-entries g l = l.n ≡ record l.initial.n { streams = map noted_entry (take l.e-index l.entries) }
