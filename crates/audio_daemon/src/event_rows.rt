@@ -1,4 +1,4 @@
-//! Rows of calls on events (IAudioClient::SetEventHandle) and on exclusive use, each worked out by hand.
+//! Rows of calls on events (IAudioClient::SetEventHandle) and of SetExclusive, each worked out by hand.
 
 use crate::exchanges::{Ask, Row, holds};
 use crate::rows::{GET_480, NOT_STOPPED, ONE, PLAYED_480, S_FALSE, S_OK, SILENT_480};
@@ -6,27 +6,28 @@ use crate::session_rows::{E_INVALIDARG, E_NOTFOUND};
 use crate::tests::{ACTIVATE, ADD, INITIALIZE, OPEN};
 use std::test::Fail;
 
-const EVENTHANDLE_NOT_EXPECTED: u32 = 0x8889_0011;
+pub const EVENTHANDLE_NOT_EXPECTED: u32 = 0x8889_0011;
 
-const EVENTHANDLE_NOT_SET: u32 = 0x8889_0014;
+pub const EVENTHANDLE_NOT_SET: u32 = 0x8889_0014;
 
 /// Initialize of client 1 with EVENTCALLBACK: shared, duration 0, the endpoint's format.
 const BY_EVENTS: &[u8] =
     b"\x01\0\0\0\0\0\0\0\0\0\0\0\0\0\x04\0\0\0\0\0\0\0\0\0\0\0\0\0\0\0\0\0\x12\0\x01\0\x02\0\x80\xbb\0\0\0\xee\x02\0\x04\0\x10\0\0\0\0\0\0\0\0\0\0\0\0\0\0\0\0\0\0\0";
 
 /// SetEventHandle of client 1: 0, 77 and 78.
-const HANDLE_0: &[u8] = b"\x01\0\0\0\0\0\0\0\0\0\0\0\0\0\0\0";
+pub const HANDLE_0: &[u8] = b"\x01\0\0\0\0\0\0\0\0\0\0\0\0\0\0\0";
 
-const HANDLE_77: &[u8] = b"\x01\0\0\0\0\0\0\0\x4d\0\0\0\0\0\0\0";
+pub const HANDLE_77: &[u8] = b"\x01\0\0\0\0\0\0\0\x4d\0\0\0\0\0\0\0";
 
 const HANDLE_78: &[u8] = b"\x01\0\0\0\0\0\0\0\x4e\0\0\0\0\0\0\0";
 
 /// TakeNotices of none, and what it tells: no event; client 1 with 77, and with 78. No notice was lost, none is told.
-const TAKE_0: &[u8] = b"\0\0\0\0";
+pub const TAKE_0: &[u8] = b"\0\0\0\0";
 
-const NO_EVENT: &[u8] = b"\0\0\0\0\0\0\0\0\0\0\0\0\0\0\0\0";
+pub const NO_EVENT: &[u8] = b"\0\0\0\0\0\0\0\0\0\0\0\0\0\0\0\0";
 
-const EVENT_77: &[u8] = b"\x01\0\0\0\x01\0\0\0\0\0\0\0\x4d\0\0\0\0\0\0\0\0\0\0\0\0\0\0\0\0\0\0\0";
+pub const EVENT_77: &[u8] =
+    b"\x01\0\0\0\x01\0\0\0\0\0\0\0\x4d\0\0\0\0\0\0\0\0\0\0\0\0\0\0\0\0\0\0\0";
 
 const EVENT_78: &[u8] = b"\x01\0\0\0\x01\0\0\0\0\0\0\0\x4e\0\0\0\0\0\0\0\0\0\0\0\0\0\0\0\0\0\0\0";
 

@@ -20,6 +20,9 @@ pub enum Ask {
     /// Initialize on this connection, of this client, with these flags: shared, duration 0, `MIX_FORMAT`, and a GUID
     /// each of whose bytes is this one.
     Initialize(u8, u8, u32, u8),
+    /// Initialize on this connection, of this client, with these flags, this duration and this period: exclusive,
+    /// `MIX_FORMAT`, and the null GUID.
+    Exclusive(u8, u8, u32, u32, u32),
     /// ReleaseBuffer of this client: so many frames with these flags, each of them this one.
     Frames(u8, u16, u32, [u8; 4]),
     /// A device event's code, and the bytes of its fields.
@@ -72,6 +75,25 @@ pub fn put_opening(
     input.extend_from_slice(&[0; 16])?;
     input.extend_from_slice(MIX_FORMAT)?;
     input.extend_from_slice(&[guid; 16])?;
+    Ok([3, conn, 9, 0, 0, 0])
+}
+
+/// The same of Initialize, as `Ask::Exclusive` has it.
+fn put_exclusive(
+    conn: u8,
+    client: u8,
+    flags: u32,
+    times: (u32, u32),
+    input: &mut Vec<u8>,
+) -> Result<[u8; 6], Fail> {
+    let (duration, period) = times;
+    input.extend_from_slice(&[0x4b, 0, 0, 0, 3, conn, 9, 0, 0, 0, 16])?;
+    input.extend_from_slice(&[client, 0, 0, 0, 0, 0, 0, 0, 1, 0, 0, 0])?;
+    input.extend_from_slice(&flags.to_le_bytes())?;
+    input.extend_from_slice(&(duration as u64).to_le_bytes())?;
+    input.extend_from_slice(&(period as u64).to_le_bytes())?;
+    input.extend_from_slice(MIX_FORMAT)?;
+    input.extend_from_slice(&[0; 16])?;
     Ok([3, conn, 9, 0, 0, 0])
 }
 
@@ -131,6 +153,9 @@ fn put_event(ask: Ask, input: &mut Vec<u8>) -> Result<[u8; 6], Fail> {
         Ask::On(conn, call, fields) => put_call(conn, call, fields, input),
         Ask::Initialize(conn, client, flags, guid) => {
             put_opening(conn, client, flags, guid, input)
+        }
+        Ask::Exclusive(conn, client, flags, duration, period) => {
+            put_exclusive(conn, client, flags, (duration, period), input)
         }
         Ask::Frames(client, count, flags, frame) => put_frames(client, count, flags, frame, input),
         Ask::Device(event, fields) => put_device(event, fields, input),

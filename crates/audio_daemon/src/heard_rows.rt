@@ -23,7 +23,7 @@ const OPPOSITE: [u8; 4] = *b"\xd0\x8a\x30\x75";
 /// GetBuffer of 100 frames of client 1, and of one frame of clients 2 and 3; client 3.
 const GET_100: &[u8] = b"\x01\0\0\0\0\0\0\0\x64\0\0\0";
 
-const GET_1_OF_2: &[u8] = b"\x02\0\0\0\0\0\0\0\x01\0\0\0";
+pub const GET_1_OF_2: &[u8] = b"\x02\0\0\0\0\0\0\0\x01\0\0\0";
 
 pub const GET_1_OF_3: &[u8] = b"\x03\0\0\0\0\0\0\0\x01\0\0\0";
 
@@ -35,7 +35,7 @@ const POSITION_100: &[u8] = b"\x64\0\0\0\0\0\0\0\x80\xbb\0\0\0\0\0\0";
 const POSITION_480: &[u8] = b"\xe0\x01\0\0\0\0\0\0\x80\xbb\0\0\0\0\0\0";
 
 /// A row, and all that the device of endpoint 1 gets.
-type Heard = (Row, &'static [Frames]);
+pub type Heard = (Row, &'static [Frames]);
 
 /// What is missing is silence; what is released as silence is silent, whatever the data are; a hang-up drops 7 frames
 /// of a stream that runs, and its session.
@@ -157,7 +157,7 @@ pub fn bytes_of(alloc: Global, frames: &[Frames]) -> Result<Vec<u8>, Fail> {
 }
 
 /// Whether the row has its replies, and the device of endpoint 1 gets these frames and nothing more.
-fn is_heard(alloc: Global, heard: &Heard) -> Result<bool, Fail> {
+pub fn is_heard(alloc: Global, heard: &Heard) -> Result<bool, Fail> {
     let (row, frames) = *heard;
     let bytes = bytes_of(alloc, frames)?;
     match device_of(alloc, &row)? {

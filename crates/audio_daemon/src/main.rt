@@ -20,6 +20,8 @@ mod event_rows;
 #[cfg(test)]
 mod exchanges;
 #[cfg(test)]
+mod exclusive_rows;
+#[cfg(test)]
 mod heard_rows;
 #[cfg(test)]
 mod notice_rows;

@@ -14,7 +14,7 @@ use std::test::Fail;
 /// Register for devices, for session 1, for all sessions, and for a class that there isn't.
 const DEVICES: &[u8] = b"\x01\0\0\0\0\0\0\0\0";
 
-const SESSION_1: &[u8] = b"\x03\x01\0\0\0\0\0\0\0";
+pub const SESSION_1: &[u8] = b"\x03\x01\0\0\0\0\0\0\0";
 
 pub const ALL_SESSIONS: &[u8] = b"\x03\0\0\0\0\0\0\0\0";
 
@@ -40,7 +40,7 @@ const STATE_3: &[u8] = b"\x01\0\0\0\x03\0\0\0";
 
 /// What comes first, what is asked then, and what connection 1 is told of it: the kind, the subject and the value of
 /// each notice.
-type Told = (Row, &'static [[u8; 3]]);
+pub type Told = (Row, &'static [[u8; 3]]);
 
 /// A format that matches, and one that doesn't; levels of a session; a session that becomes active, inactive and
 /// expired.
@@ -221,7 +221,7 @@ fn put_taken(
 
 /// Whether the row's replies are those that the program writes for it, and then connection 1 is told these notices, and
 /// nothing more.
-fn is_told(alloc: Global, told: &Told, devices: &[(u64, usize)]) -> Result<bool, Fail> {
+pub fn is_told(alloc: Global, told: &Told, devices: &[(u64, usize)]) -> Result<bool, Fail> {
     let ((first, exchanges), notices) = *told;
     let mut input = joined(alloc, first)?;
     let mut output = Vec::new(alloc);

@@ -104,7 +104,7 @@ const INITIALIZE_CB_SIZE: &[u8] =
 pub const ACTIVATE_1: &[u8] = b"\x01\0\0\0\0";
 
 /// Device event Add: endpoint 1, render, 44,100 Hz, two channels, `CD`; and Initialize of client 1 with its format.
-const ADD_44100: &[u8] =
+pub const ADD_44100: &[u8] =
     b"\x1f\0\0\0\x05\x01\x01\0\0\0\0\x12\0\x01\0\x02\0\x44\xac\0\0\x10\xb1\x02\0\x04\0\x10\0\0\0\x02\0CD";
 
 const INITIALIZE_CD: &[u8] =

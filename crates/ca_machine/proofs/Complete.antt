@@ -1,12 +1,12 @@
 -- If no row refuses an event it is granted, unless memory ran out: a line for each call, by the lemma of its kind.
 use Rattle.std.proofs.Common.{◌≡◌, ℕ, List, [], ◌∷◌, ◌++◌, length, Bool, true, false, Option, Some, None, refl, sym, ap}
-use Rattle.std.proofs.Common.{◌∙◌, subst, inl, inr, is_none, nat_lt, not, option_map, ◌==◌, ◌||◌}
+use Rattle.std.proofs.Common.{◌∙◌, subst, inl, inr, is_none, nat_lt, not, option_map, ◌||◌}
 use Rattle.std.proofs.lemmas.Bool.{true≢false, or_right}
 use Rattle.ca_base.specs.declared.codes.Hr.{Hr}
 use Rattle.ca_base.specs.declared.codes.TheConstants.Hr as hr
 use Rattle.ca_base.specs.declared.ids.Flow.{Flow}
 use Rattle.ca_base.specs.declared.ids.Flow.TheVariants as flow
-use Rattle.ca_base.specs.declared.values.TheConstants.{FLOW_CAPTURE, ROLE_COMMUNICATIONS, SHARE_EXCLUSIVE}
+use Rattle.ca_base.specs.declared.values.TheConstants.{FLOW_CAPTURE, ROLE_COMMUNICATIONS}
 use Rattle.ca_base.specs.Rows.{Row, first}
 use Rattle.ca_model.specs.declared.event.Event.TheVariants as event
 use Rattle.ca_model.specs.declared.event.Call.{Call}
@@ -35,14 +35,14 @@ use Rattle.ca_machine.specs.SharedRows.{control_rows, data_call_rows, client_row
 use Rattle.ca_machine.specs.SharedRows.{stream_plan, no_rows, is_inactive, is_invalidated, invalidated_rows}
 use Rattle.ca_machine.specs.SharedRows.{endpoint_of, shut_rows, with_endpoint}
 use Rattle.ca_machine.specs.Clients.{open_plan, release_plan, hangup_plan, activate_plan}
-use Rattle.ca_machine.specs.Openings.{Opening, later_rows, opening_rows, initialized, initialize_plan}
+use Rattle.ca_machine.specs.Openings.{Opening, opening_rows, initialized, initialize_plan}
 use Rattle.ca_machine.specs.Streams.{get_stream_level_rows, set_stream_level_rows}
 use Rattle.ca_machine.specs.Sessions.{enum_sessions_plan, get_session_plan, session_payload, set_session_plan}
 use Rattle.ca_machine.specs.Sessions.{state_of_session, with_session}
-use Rattle.ca_machine.specs.Streams.{supported, get_mix_format_plan}
+use Rattle.ca_machine.specs.Streams.{supported, supported_rows, get_mix_format_plan}
 use Rattle.ca_machine.specs.Formats.{format_payload}
 use Rattle.ca_machine.specs.Streams.{is_format_supported_plan, get_device_period_plan}
-use Rattle.ca_machine.specs.Formats.{is_faulty, is_malformed}
+use Rattle.ca_machine.specs.Formats.{is_faulty}
 use Rattle.ca_machine.specs.Streams.{start_rows, stop_rows, reset_rows, get_service_rows, set_event_handle_rows}
 use Rattle.ca_machine.specs.Data.{side_of, seen_of, data_rows, data_plan}
 use Rattle.device_registry.specs.Endpoints.{is_state}
@@ -173,13 +173,13 @@ is_format_supported_complete : (st : State) (conn client share : ℕ) (bytes : L
 is_format_supported_complete st conn client share bytes =
     let c : Option Client = client_of conn client st in
     let stream : Option Stream = stream_at client st.stage in
-    let front : List (Row Hr) = control_rows conn st ++ (share == SHARE_EXCLUSIVE, hr.E_NOTIMPL) ∷ [] in
-    let last : List (Row Hr) = (nat_lt SHARE_EXCLUSIVE share || is_malformed bytes, hr.E_INVALIDARG) ∷ [] in
+    let last : List (Row Hr) = supported_rows share (endpoint_of st c) bytes in
     plain_complete st (is_format_supported_plan st conn client share bytes) (λ n.
-    placed st stream (supported st bytes)
+    placed st stream (supported st share bytes)
     (λ e. chosen (λ (o : Outcome). IsGranted o.result) _ _ _ (inr refl) (inl refl)) c
-    (row_fails front (is_none c, hr.E_HANDLE) (invalidated_rows st c stream ++ last) n)
-    (row_fails (front ++ client_rows conn client st) (is_invalidated st c stream, hr.DEVICE_INVALIDATED) last n))
+    (row_fails (control_rows conn st) (is_none c, hr.E_HANDLE) (invalidated_rows st c stream ++ last) n)
+    (row_fails (control_rows conn st ++ client_rows conn client st)
+    (is_invalidated st c stream, hr.DEVICE_INVALIDATED) last n))
 
 initializes : (st : State) (conn : ℕ) (c : Option Client) (x : Opening) → is_none c ≡ false →
     IsGranted (initialized st conn c x).result
@@ -191,7 +191,7 @@ initialize_complete st conn client x =
     let c : Option Client = client_of conn client st in
     memory_complete st (initialize_plan st conn client x) (λ n.
     initializes st conn c x
-    (row_fails (control_rows conn st ++ later_rows x) (is_none c, hr.E_HANDLE)
+    (row_fails (control_rows conn st) (is_none c, hr.E_HANDLE)
     (opening_rows st conn c (stream_at client st.stage) x) n))
 
 -- a call of a session: if there is none, a row has refused it

@@ -1,5 +1,5 @@
 -- Every event upholds the headline: a line for each call, by the lemma of its kind.
-use Rattle.std.proofs.Common.{◌≡◌, ℕ, option_map, List, [], ◌∷◌, true}
+use Rattle.std.proofs.Common.{◌≡◌, ℕ, option_map, List, [], true}
 use Rattle.std.proofs.Common.{Option, Some, None, refl, ap, ◌∙◌, subst, eqb-true, false, if◌then◌else◌, slice_set}
 use Rattle.std.specs.Int.{w32, w64, to_le_bytes}
 use Rattle.ca_base.specs.declared.codes.TheConstants.Hr as hr
@@ -12,7 +12,7 @@ use Rattle.ca_model.specs.declared.event.Call.{Call}
 use Rattle.ca_model.specs.declared.event.Call.TheVariants as call
 use Rattle.client_state.specs.declared.check.DataCall.TheVariants as data_call
 use Rattle.ca_stage.specs.Stage.{frames_waiting}
-use Rattle.ca_stage.specs.Moves.{Move, opened, of_client, leased, read, started, stopped, reset}
+use Rattle.ca_stage.specs.Moves.{Move, of_client, leased, read, started, stopped, reset}
 use Rattle.ca_stage.specs.Order.{is_among}
 use Rattle.ca_stage.proofs.Lists.{chosen, all_found, found_passes}
 use Rattle.session_manager.specs.declared.changes.Change.{Change}
@@ -20,6 +20,7 @@ use Rattle.session_manager.specs.declared.changes.Change.TheVariants as change
 use Rattle.session_manager.specs.declared.session.Session.{Session}
 use Rattle.session_manager.specs.declared.session.SessionKey.{SessionKey}
 use Rattle.session_manager.specs.Sessions.{SessionList, joined, number_joined, session_at}
+use Rattle.ca_base.specs.declared.ids.Reason.TheVariants.{Override}
 use Rattle.ca_machine.specs.declared.state.Client.{Client}
 use Rattle.device_registry.specs.declared.endpoint.Endpoint.{Endpoint}
 use Rattle.device_registry.specs.Endpoints.{is_endpoint}
@@ -29,8 +30,12 @@ use Rattle.ca_machine.specs.Plan.{Answer, AreAnswers, answered, Plan, outcome_of
 use Rattle.ca_machine.specs.SharedRows.{no_rows, endpoint_of}
 use Rattle.ca_machine.specs.Clients.{open_plan, is_client_on, without_connection, hangup_plan, activate_plan}
 use Rattle.ca_machine.specs.Clients.{release_plan}
-use Rattle.ca_machine.specs.Streams.{get_device_period_plan, get_mix_format_plan, get_service_rows, get_stream_level_rows, is_format_supported_plan, reset_rows, set_event_handle_plan, set_event_handle_rows, set_stream_level_plan, set_stream_level_rows, start_rows, stop_rows, supported}
-use Rattle.ca_machine.specs.Openings.{Opening, endpoint_channels, flow_of, initialize_plan, initialized, is_kept, joined_by, new_stream, opened_in, session_key}
+use Rattle.ca_machine.specs.Streams.{get_device_period_plan, get_mix_format_plan, get_service_rows}
+use Rattle.ca_machine.specs.Streams.{get_stream_level_rows, is_format_supported_plan, reset_rows, set_event_handle_plan}
+use Rattle.ca_machine.specs.Streams.{set_event_handle_rows, set_stream_level_plan, set_stream_level_rows, start_rows}
+use Rattle.ca_machine.specs.Streams.{stop_rows, supported}
+use Rattle.ca_machine.specs.Openings.{Opening, endpoint_channels, flow_of, initialize_plan, initialized, is_kept}
+use Rattle.ca_machine.specs.Openings.{joined_by, new_stream, opened_in, session_key, takes_over}
 use Rattle.ca_machine.specs.Formats.{format_payload}
 use Rattle.ca_machine.specs.Sessions.{enum_sessions_plan, get_session_plan, set_session_plan, with_session}
 use Rattle.ca_machine.specs.Data.{next_packet_size, packets_read}
@@ -52,26 +57,14 @@ use Rattle.ca_machine.specs.Headline.{handed, handed_by}
 use Rattle.ca_machine.proofs.LiveClients.{found_is_live}
 use Rattle.ca_machine.proofs.PresentStage.{PresentLaws, stage_of}
 use Rattle.ca_machine.proofs.Playheads.{HasHead}
-use Rattle.ca_machine.proofs.StateInOrder.{IsInOrder, in_order_clients, in_order_made, in_order_moved, keeps_if}
+use Rattle.ca_machine.proofs.StateInOrder.{IsInOrder, in_order_clients, in_order_made, keeps_if}
 use Rattle.ca_machine.proofs.FramesHanded.{HandsNone, none_by}
-use Rattle.ca_machine.proofs.Outcomes.{
-  Upholds,
-  upholds_answered,
-  upholds_data,
-  upholds_leaving,
-  upholds_memory,
-  upholds_move,
-  upholds_noticed,
-  upholds_plan,
-  upholds_quiet,
-  upholds_refused,
-  upholds_sounding,
-  upholds_still,
-  upholds_stream,
-  upholds_with_endpoint,
-}
+use Rattle.ca_machine.proofs.Outcomes.{Upholds, upholds_answered, upholds_data, upholds_leaving, upholds_memory}
+use Rattle.ca_machine.proofs.Outcomes.{upholds_move, upholds_noticed, upholds_plan, upholds_refused, upholds_sounding}
+use Rattle.ca_machine.proofs.Outcomes.{upholds_still, upholds_stream, upholds_with_endpoint}
 use Rattle.ca_machine.proofs.Recordings.{upholds_recording}
 use Rattle.ca_machine.proofs.BufferReleases.{upholds_release_buffer}
+use Rattle.ca_machine.proofs.Disconnects.{upholds_opening}
 use Rattle.ca_machine.proofs.DeviceEvents.{upholds_changed, upholds_device, upholds_shutdown}
 
 -- what is asked if no row refuses
@@ -148,8 +141,8 @@ module _ (laws : PresentLaws) (ms : List Move) (st : State) (h : IsInOrder ms st
     upholds_opened : (new : State) (c : Client) (x : Opening) (session : ℕ) → HandsNone e → IsInOrder ms new →
         is_among c.client.0 (live_clients new.clients) ≡ true → Upholds ms st e given (opened_in new c x session)
     upholds_opened new c x session n k a =
-        upholds_quiet laws ms st h e given (opened_in new c x session) n (refl, tt) refl
-        (in_order_moved laws ms (opened (new_stream (flow_of new c) c x session) ∷ []) new k (a, tt) (refl, tt) tt)
+        upholds_opening laws ms st h e given new (takes_over new c x) Override (Some c.endpoint.0)
+        (to_le_bytes w64 session) (new_stream (flow_of new c) c x session) n k a
 
     upholds_joined : (c : Client) (x : Opening) (key : SessionKey) → HandsNone e →
         is_among c.client.0 (live_clients st.clients) ≡ true → Upholds ms st e given (joined_by st c x key)
@@ -205,8 +198,9 @@ module _ (laws : PresentLaws) (ms : List Move) (st : State) (h : IsInOrder ms st
 
     -- ---- IsFormatSupported
 
-    upholds_supported : (bytes : List ℕ) (d : Endpoint) → HandsNone e → Upholds ms st e given (supported st bytes d)
-    upholds_supported bytes d n =
+    upholds_supported : (share : ℕ) (bytes : List ℕ) (d : Endpoint) → HandsNone e →
+        Upholds ms st e given (supported st share bytes d)
+    upholds_supported share bytes d n =
         chosen (Upholds ms st e given) _ _ _
         (upholds_still laws ms st h e given hr.S_FALSE (format_payload d.format) st
         (none_by (stage_of ms) e hr.S_FALSE n) h)
@@ -284,7 +278,7 @@ module _ (laws : PresentLaws) (ms : List Move) (st : State) (h : IsInOrder ms st
     upholds_call conn (call.IsFormatSupported c share format) n =
         upholds_plan laws ms st h e given (is_format_supported_plan st conn c.0 share format.list) n
         (λ r. upholds_with_endpoint laws ms st h e given (endpoint_of st (client_of conn c.0 st)) _ n
-        (λ d. upholds_supported format.list d n))
+        (λ d. upholds_supported share format.list d n))
     upholds_call conn (call.GetMixFormat c) n =
         upholds_plan laws ms st h e given (get_mix_format_plan st conn c.0) n
         (λ r. upholds_with_endpoint laws ms st h e given (endpoint_of st (client_of conn c.0 st)) _ n

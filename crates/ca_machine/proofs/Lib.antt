@@ -22,3 +22,4 @@ pub mod WorkedTurns
 mod WorkedSessions
 mod WorkedPackets
 mod Worked
+mod WorkedExclusive

@@ -88,18 +88,21 @@ module _ (laws : PresentLaws) (ms : List Move) (st : State) (h : IsInOrder ms st
     given_by payload frames true g = none_given payload [] (moved [] st) tt (in_order_moved laws ms [] st h tt tt tt)
     given_by payload frames false g = some_given payload frames g
 
-    pub upholds_recording : endpoint_at d.no.0 st ≡ Some d → Upholds ms st e given (recording st d given)
+    pub upholds_recording : endpoint_at d.no.0 st ≡ Some d → Upholds ms st e given
+        (recording st d (period_frames d st.stage.streams) given)
     upholds_recording k = go (is_whole given)
       where
         payload : Bool → List ℕ
-        payload whole = period_payload (frames_recorded d (bytes_given given)) whole
+        payload whole = period_payload (frames_recorded d (period_frames d st.stage.streams) (bytes_given given)) whole
 
         go : (whole : Bool) → Upholds ms st e given
-            (recorded (payload whole) (recording_moves d (bytes_given given) whole st.stage)
+            (recorded (payload whole)
+            (recording_moves d (period_frames d st.stage.streams) (bytes_given given) whole st.stage)
             (after_recording d (bytes_given given) whole
-            (moved (recording_moves d (bytes_given given) whole st.stage) st)))
+            (moved (recording_moves d (period_frames d st.stage.streams) (bytes_given given) whole st.stage) st)))
         go true =
-            given_by (payload true) (frames_given (period_frames d) d.format.channels (bytes_given given))
+            given_by (payload true)
+            (frames_given (period_frames d st.stage.streams) d.format.channels (bytes_given given))
             (whole_frames d.format.channels (bytes_given given) == 0) (d, k, refl)
         go false =
             let xs : List Move = closes_of Removal (open_streams_on d.no.0 st.stage) in

@@ -1,5 +1,6 @@
 -- What holds of every state of a run, after the moves that were made before it.
-use Rattle.std.proofs.Common.{◌≡◌, ◌&&◌, ℕ, ◌+◌, ◌≤◌, ◌<◌, ◌||◌, ◌==◌, cond, not, List, [], ◌∷◌, ◌++◌, filter, Bool, true}
+use Rattle.std.proofs.Common.{◌≡◌, ◌&&◌, ℕ, ◌+◌, ◌≤◌, ◌<◌, ◌||◌, ◌==◌, cond, not, List, [], ◌∷◌, ◌++◌, filter, Bool}
+use Rattle.std.proofs.Common.{true}
 use Rattle.std.proofs.Common.{false, refl, sym, ap, ap₂, ◌∙◌, subst, append-nil, arith, eqb, eqb-true}
 use Rattle.std.proofs.Common.{if◌then◌else◌, map}
 use Rattle.std.proofs.lemmas.Bool.{or_from, or_parts}
@@ -20,7 +21,7 @@ use Rattle.ca_stage.proofs.MapTallies.{tally-append}
 use Rattle.ca_machine.specs.declared.state.Client.{Client}
 use Rattle.device_registry.specs.declared.endpoint.Endpoint.{Endpoint}
 use Rattle.device_registry.specs.Endpoints.{changed, is_endpoint, removed, with_state}
-use Rattle.ca_machine.specs.State.{State, empty_state, endpoint_numbers, is_client_of, live_clients}
+use Rattle.ca_machine.specs.State.{State, empty_state, endpoint_numbers, live_clients}
 use Rattle.ca_machine.specs.Seats.{with_playheads}
 use Rattle.ca_machine.specs.Devices.{with_endpoints}
 use Rattle.ca_machine.specs.Plan.{moved}

@@ -71,7 +71,7 @@ abbrev pub IsGivenIn : State → List Answer → ℕ → List Frame → Type 0
 IsGivenIn st given number frames =
     (e : Endpoint)
     × (endpoint_at number st ≡ Some e)
-    × (frames ≡ frames_given (period_frames e) e.format.channels (bytes_given given))
+    × (frames ≡ frames_given (period_frames e st.stage.streams) e.format.channels (bytes_given given))
 
 -- so are the frames of each capture among these moves
 abbrev pub RecordsBy : State → List Answer → List Move → Type 0

@@ -2,15 +2,15 @@ pub mod State
 pub mod Seats
 pub mod Plan
 pub mod SharedRows
-pub mod Clients
 pub mod Formats
+pub mod Devices
 pub mod Openings
+pub mod Clients
 pub mod Streams
 pub mod Sessions
 pub mod Data
 pub mod Endpoints
 pub mod Registrations
-pub mod Devices
 pub mod Notices
 pub mod Periods
 pub mod Step

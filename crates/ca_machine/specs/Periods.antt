@@ -31,9 +31,18 @@ use Rattle.ca_machine.specs.Plan.{Outcome, Plan, Answer, plain, refused, moved, 
 use Rattle.ca_machine.specs.Plan.Asked.{writing, reading}
 use Rattle.ca_machine.specs.SharedRows.{shut_rows}
 
--- the frames of an endpoint's period
-abbrev pub period_frames : Endpoint → ℕ
-period_frames e = frames_of_time e.format.rate SHARED_PERIOD
+-- the frames of a period that an endpoint's shared streams have
+abbrev pub shared_frames : Endpoint → ℕ
+shared_frames e = frames_of_time e.format.rate SHARED_PERIOD
+
+-- an exclusive stream holds an endpoint
+abbrev pub is_exclusive_on : ℕ → Stream → Bool
+is_exclusive_on number s = is_open_on number s && s.exclusive
+
+-- the frames of an endpoint's period: those of the exclusive stream that holds it, running or not, or of its shared
+-- ones
+abbrev pub period_frames : Endpoint → List Stream → ℕ
+period_frames e streams = option_map_or (λ s. s.period) (find (is_exclusive_on e.no.0) streams) (shared_frames e)
 
 -- the session of a stream that is there
 abbrev pub session_joined : State → Option Stream → Option Session
@@ -55,16 +64,22 @@ gain_in levels (Some s) channel = gain_of_stream (record {
   mute = s.mute;
 })
 
--- the gain of a channel of a client's stream
+-- a stream that is there is exclusive
+abbrev pub is_exclusive_stream : Option Stream → Bool
+is_exclusive_stream stream = option_map_or (λ s. s.exclusive) stream false
+
+-- the gain of a channel of a client's stream: an exclusive one sounds as it is
 abbrev pub gain_of : State → ℕ → ℕ → ℕ
 gain_of st client channel =
-    gain_in (levels_of client st) (session_joined st (stream_at client st.stage)) channel
+    if is_exclusive_stream (stream_at client st.stage)
+    then unit_gain
+    else gain_in (levels_of client st) (session_joined st (stream_at client st.stage)) channel
 
 -- what a period of an endpoint mixes by, in this state: its frames and channels, and all gains
 abbrev pub mixing_of : State → Endpoint → Mixing
 mixing_of st e = record {
   endpoint = e.no.0;
-  frames = period_frames e;
+  frames = period_frames e st.stage.streams;
   channels = e.format.channels;
   gain = gain_of st;
   endpoint_gain = λ channel. unit_gain;
@@ -117,23 +132,23 @@ sounding st m given = record {
 abbrev pub recording_streams_on : ℕ → Stage → List Stream
 recording_streams_on number st = filter (is_recording number) st.streams
 
--- the bytes that are asked of an endpoint's device: those of a period, if a stream records the endpoint
-abbrev pub bytes_asked : Endpoint → List Stream → ℕ
-bytes_asked e [] = 0
-bytes_asked e (s ∷ streams) = period_frames e * e.format.channels * 2
+-- the bytes that are asked of an endpoint's device for a period of so many frames, if a stream records the endpoint
+abbrev pub bytes_asked : Endpoint → ℕ → List Stream → ℕ
+bytes_asked e frames [] = 0
+bytes_asked e frames (s ∷ streams) = frames * e.format.channels * 2
 
 -- the frames that a period records: none if the device gave no whole one
-abbrev pub frames_recorded : Endpoint → List ℕ → ℕ
-frames_recorded e bytes = if whole_frames e.format.channels bytes == 0 then 0 else period_frames e
+abbrev pub frames_recorded : Endpoint → ℕ → List ℕ → ℕ
+frames_recorded e frames bytes = if whole_frames e.format.channels bytes == 0 then 0 else frames
 
 -- what a period of an endpoint that captures moves, if its device gave these bytes, or failed: each stream that records
 -- it is offered them as a packet, or the streams are closed
-abbrev pub recording_moves : Endpoint → List ℕ → Bool → Stage → List Move
-recording_moves e bytes true st =
+abbrev pub recording_moves : Endpoint → ℕ → List ℕ → Bool → Stage → List Move
+recording_moves e frames bytes true st =
     if whole_frames e.format.channels bytes == 0
     then []
-    else captures e.no.0 (frames_given (period_frames e) e.format.channels bytes) st
-recording_moves e bytes false st = map (λ s. of_client s.client (closed Removal)) (open_streams_on e.no.0 st)
+    else captures e.no.0 (frames_given frames e.format.channels bytes) st
+recording_moves e frames bytes false st = map (λ s. of_client s.client (closed Removal)) (open_streams_on e.no.0 st)
 
 -- and after it: events are set if something was offered
 abbrev pub after_recording : Endpoint → List ℕ → Bool → State → State
@@ -141,15 +156,15 @@ after_recording e bytes true st =
     if whole_frames e.format.channels bytes == 0 then st else after_period e.no.0 true st
 after_recording e bytes false st = after_period e.no.0 false st
 
--- a period of an endpoint that captures
-abbrev pub recording : State → Endpoint → List Answer → Outcome
-recording st e given = record {
+-- a period of so many frames of an endpoint that captures
+abbrev pub recording : State → Endpoint → ℕ → List Answer → Outcome
+recording st e frames given = record {
   result = hr.S_OK;
-  payload = period_payload (frames_recorded e (bytes_given given)) (is_whole given);
-  moves = recording_moves e (bytes_given given) (is_whole given) st.stage;
+  payload = period_payload (frames_recorded e frames (bytes_given given)) (is_whole given);
+  moves = recording_moves e frames (bytes_given given) (is_whole given) st.stage;
   output = [];
   after = after_recording e (bytes_given given) (is_whole given)
-      (moved (recording_moves e (bytes_given given) (is_whole given) st.stage) st);
+      (moved (recording_moves e frames (bytes_given given) (is_whole given) st.stage) st);
 }
 
 -- ---- the table
@@ -158,13 +173,12 @@ recording st e given = record {
 abbrev pub is_worn : ℕ → ℕ → Stream → Bool
 is_worn number frames s = (is_recording number s || is_hearing number s) && nat_lt MAX_COUNT (s.ever + frames)
 
-abbrev pub period_rows : State → Endpoint → List (Row Hr)
-period_rows st e =
+abbrev pub period_rows : State → Endpoint → ℕ → List (Row Hr)
+period_rows st e frames =
     shut_rows st
     ++ (not (e.state == STATE_ACTIVE), hr.DEVICE_INVALIDATED)
     ∷ (
-      nat_lt MAX_COUNT (next_of e.no.0 st.stage + period_frames e)
-          || list_any (is_worn e.no.0 (period_frames e)) st.stage.streams,
+      nat_lt MAX_COUNT (next_of e.no.0 st.stage + frames) || list_any (is_worn e.no.0 frames) st.stage.streams,
       hr.WORN,
     )
     ∷ []
@@ -172,14 +186,15 @@ period_rows st e =
 -- a period by its endpoint's flow: it plays, or it records
 abbrev pub period_by : State → Endpoint → Flow → Plan
 period_by st e flow.Render = record {
-  rows = period_rows st e;
+  rows = period_rows st e (period_frames e st.stage.streams);
   asks = writing (length (bytes_due (mixing_of st e) st.stage));
   grants = sounding st (mixing_of st e);
 }
 period_by st e flow.Capture = record {
-  rows = period_rows st e;
-  asks = reading e.no.0 (bytes_asked e (recording_streams_on e.no.0 st.stage));
-  grants = recording st e;
+  rows = period_rows st e (period_frames e st.stage.streams);
+  asks = reading e.no.0
+      (bytes_asked e (period_frames e st.stage.streams) (recording_streams_on e.no.0 st.stage));
+  grants = recording st e (period_frames e st.stage.streams);
 }
 
 -- a period of an endpoint, if it is there

@@ -17,7 +17,7 @@ use Rattle.ca_stage.specs.Stage.{Stream, frames_waiting, is_render}
 use Rattle.ca_stage.specs.Moves.{of_client, started, stopped, reset, stream_at}
 use Rattle.ca_machine.specs.declared.state.Client.{Client}
 use Rattle.device_registry.specs.declared.endpoint.Endpoint.{Endpoint}
-use Rattle.ca_machine.specs.Formats.{is_malformed, is_faulty, matches, format_payload}
+use Rattle.ca_machine.specs.Formats.{is_malformed, is_faulty, is_exclusive, admits, lacks_format, format_payload}
 use Rattle.ca_machine.specs.State.{State, client_of, is_client_of}
 use Rattle.ca_machine.specs.Plan.{Outcome, Plan, plain, answered, granted}
 use Rattle.ca_machine.specs.SharedRows.{
@@ -63,21 +63,28 @@ abbrev pub get_device_period_plan : State → ℕ → ℕ → Plan
 get_device_period_plan st conn client = plain (control_rows conn st ++ endpoint_rows st conn client)
     (answered st (to_le_bytes w64 SHARED_PERIOD ++ to_le_bytes w64 MIN_EXCLUSIVE_PERIOD))
 
--- IAudioClient::IsFormatSupported of a shared stream: yes, or S_FALSE with the closest format, which is the endpoint's
-abbrev pub supported : State → List ℕ → Endpoint → Outcome
-supported st bytes e =
-    if is_faulty bytes || not (matches e.format (spelled bytes))
+-- the bytes are no format, or exclusive use of the endpoint in it can't be had
+abbrev pub supported_rows : ℕ → Option Endpoint → List ℕ → List (Row Hr)
+supported_rows share endpoint bytes =
+    (nat_lt SHARE_EXCLUSIVE share || is_malformed bytes, hr.E_INVALIDARG)
+    ∷ (
+      is_exclusive share && (is_faulty bytes || lacks_format share endpoint bytes),
+      hr.UNSUPPORTED_FORMAT,
+    )
+    ∷ []
+
+-- IAudioClient::IsFormatSupported: yes, or for a shared stream S_FALSE with the closest format, which is the endpoint's
+abbrev pub supported : State → ℕ → List ℕ → Endpoint → Outcome
+supported st share bytes e =
+    if is_faulty bytes || not (admits share e.format (spelled bytes))
     then record (answered st (format_payload e.format)) { result = hr.S_FALSE }
     else answered st []
 
 abbrev pub is_format_supported_plan : State → ℕ → ℕ → ℕ → List ℕ → Plan
 is_format_supported_plan st conn client share bytes = plain
-    (control_rows conn st
-    ++ (share == SHARE_EXCLUSIVE, hr.E_NOTIMPL)
-    ∷ endpoint_rows st conn client
-    ++ (nat_lt SHARE_EXCLUSIVE share || is_malformed bytes, hr.E_INVALIDARG)
-    ∷ [])
-    (with_endpoint st (endpoint_of st (client_of conn client st)) (supported st bytes))
+    (control_rows conn st ++ endpoint_rows st conn client
+    ++ supported_rows share (endpoint_of st (client_of conn client st)) bytes)
+    (with_endpoint st (endpoint_of st (client_of conn client st)) (supported st share bytes))
 
 -- services by number (own): 1 renders, 2 captures; 3 to 7 are there for every stream
 abbrev pub is_service : ℕ → Bool

@@ -13,12 +13,23 @@ pub struct Held {
     pub exclusive: bool,
 }
 
+/// No stream's: what a table has at its unused places.
+impl Default for Held {
+    fn default() -> Held {
+        Held {
+            client: ClientNo(0),
+            exclusive: false,
+        }
+    }
+}
+
 /// What a client that asks for a stream gets.
 #[derive(Clone, Copy, Debug, PartialEq, Eq)]
 pub enum Claim {
     /// A stream beside those that are there.
     Granted,
-    /// A stream in place of all that are there: each of them is disconnected first (DisconnectReasonExclusiveModeOverride).
+    /// A stream in place of all that are there: each of them is disconnected first
+    /// (DisconnectReasonExclusiveModeOverride).
     TakeOver,
     /// No stream, for this code.
     Refused(Hr),

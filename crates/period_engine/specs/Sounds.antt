@@ -1,6 +1,6 @@
 -- A Sound over entries: what was picked is mixed, each stream by its gains, and offered to the endpoint's device (this
 -- project's own).
-use Rattle.std.specs.Prelude.{◌≡◌, ℕ, ◌*◌, ◌<◌, ◌≤◌, List, [], ◌∷◌, length, slice_index, Bool, Option}
+use Rattle.std.specs.Prelude.{◌≡◌, ℕ, ◌*◌, ◌^◌, ◌<◌, ◌≤◌, List, [], ◌∷◌, length, slice_index, Bool, Option}
 use Rattle.std.specs.List.{All}
 use Rattle.device_io.specs.DeviceLog.{DeviceLog}
 use Rattle.volume_stack.specs.Scaling.{unit_gain}
@@ -31,10 +31,11 @@ pub record BlockState : Type 0 where
   pub frames : ℕ
   pub bytes : List ℕ
 
--- a block has two bytes for each sample, and a word ahead of those of a packet's frames
+-- a block has two bytes for each sample, and a word ahead of those of a packet's frames, of which a u32 counts
 pub record IsWholeBlock (sums bytes words : ℕ) : Type 0 where
   pub bytes_are : bytes ≡ 2 * sums
   pub some : 1 ≤ words
+  pub most : words ≤ 2 ^ 32
 
 -- a block for this many frames of this many channels
 pub record IsBlockFor (frames channels : ℕ) (b : BlockState) : Type 0 where

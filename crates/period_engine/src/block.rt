@@ -45,4 +45,11 @@ impl Block {
         words.resize(frames as usize + 1, 0)?;
         Ok(Block { sums, bytes, words })
     }
+
+    /// The frames of the longest period that fits in it.
+    pub fn frames(&self) -> u32
+        ensures { result ≡ self.now.frames }
+    {
+        (self.words.len() - 1) as u32
+    }
 }

@@ -230,6 +230,7 @@ module _ {D E : Type 0} (state : E → EndState) (b : Board D E) (order : InOrde
     belong =
         All-weaker (Belongs b.book b.seats.items) (Belongs with_client b.seats.items) still_belongs b.entries.items
         order.belong;
+    alike = order.alike;
     seats = order.seats;
     book = pushed_book;
     room = order.room;

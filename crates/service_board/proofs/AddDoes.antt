@@ -31,7 +31,7 @@ use Rattle.ca_machine.specs.Plan.{Plan}
 use Rattle.ca_machine.specs.Plan.Answer.{found, out_of_memory}
 use Rattle.ca_machine.specs.Devices.{add_plan, add_rows, flow_numbered, new_endpoint}
 use Rattle.ca_machine.proofs.DevicesGive.{found_gives_none, passes_unread, short_gives_none}
-use Rattle.ca_machine.specs.Periods.{period_frames}
+use Rattle.ca_machine.specs.Periods.{shared_frames}
 use Rattle.ca_machine.specs.View.{AnswersBy, outside}
 use Rattle.period_engine.specs.declared.entry.StreamEntry.{StreamEntry}
 use Rattle.period_engine.specs.Entries.{streams_of}
@@ -40,7 +40,7 @@ use Rattle.service_book.specs.InOrder.{IsBook}
 use Rattle.service_book.proofs.Rows.{row_fails}
 use Rattle.service_board.specs.Board.{playhead_of, stage_with, state_of}
 use Rattle.service_board.specs.Does.{AnyData, Does, Made, store_at}
-use Rattle.service_board.specs.InOrder.{IsOn, Belongs, InOrder, Seats, is_seat, next_at}
+use Rattle.service_board.specs.InOrder.{IsOn, Belongs, InOrder, Seats, is_seat, next_at, scratch_at}
 use Rattle.service_board.specs.Lookups.{Says}
 use Rattle.service_board.specs.declared.board.Board.{Board}
 use Rattle.service_board.specs.declared.board.Seat.{Seat}
@@ -113,26 +113,30 @@ next_stays n seats s =
     subst (λ o. next_at n seats ≤ option_map_or (λ (t : Seat). t.next) o 0)
     (sym (find-append (is_seat n) seats (s ∷ []))) (next_or (find (is_seat n) seats) (find (is_seat n) (s ∷ [])))
 
+scratch_or : (o p : Option Seat) → option_map_or (λ (s : Seat). s.block.frames) o 0
+    ≤ option_map_or (λ (s : Seat). s.block.frames) (first_of_two o p) 0
+scratch_or None p = omega arith
+scratch_or (Some s) p = omega arith
+
+scratch_stays : (n : ℕ) (seats : List Seat) (s : Seat) → scratch_at n seats ≤ scratch_at n (seats ++ s ∷ [])
+scratch_stays n seats s =
+    subst (λ o. scratch_at n seats ≤ option_map_or (λ (t : Seat). t.block.frames) o 0)
+    (sym (find-append (is_seat n) seats (s ∷ [])))
+    (scratch_or (find (is_seat n) seats) (find (is_seat n) (s ∷ [])))
+
 -- ---- the seat of an endpoint, with a new block
 
-no_less : (size samples : ℕ) → samples ≡ size → size ≤ samples
-no_less size samples e = omega arith
-
-two_each : (size bytes : ℕ) → bytes ≡ 2 * size → size * 2 ≤ bytes
-two_each size bytes e = omega arith
-
 pub seat_made : (seat : Seat) (e : Endpoint) → seat.endpoint.0 ≡ e.no.0 → seat.next ≤ MAX_COUNT →
-    IsBlockFor (period_frames e) e.format.channels seat.block → IsValid e.format → Seats seat e
-seat_made seat e number next block valid = record {
+    (frames : ℕ) → shared_frames e ≤ frames → IsBlockFor frames e.format.channels seat.block → IsValid e.format →
+    Seats seat e
+seat_made seat e number next frames fits block valid = record {
   number = number;
   next = next;
-  block = no_less (period_frames e * e.format.channels) seat.block.samples block.samples;
-  feed = record {
-    some = valid.some_channel;
-    few = valid.few_channels;
-    words = no_less (period_frames e) seat.block.frames block.frames_are;
-    bytes = two_each (period_frames e * e.format.channels) (length seat.block.bytes) block.bytes;
+  block = record {
+    samples = block.samples ∙ ap (λ n. n * e.format.channels) (sym block.frames_are);
+    bytes = block.bytes ∙ ap (λ n. 2 * (n * e.format.channels)) (sym block.frames_are);
   };
+  fits = subst (λ n. shared_frames e ≤ n) (sym block.frames_are) fits;
   format = valid;
 }
 
@@ -243,6 +247,14 @@ module _ {D E : Type 0} (state : E → EndState) (b : Board D E) (order : InOrde
           let after : next_at n new.seats.items ≡ next_at n (b.seats.items ++ seat ∷ []) = ap (next_at n) seated in
           omega arith
 
+      -- scratch is no less
+      no_less : (n frames : ℕ) → frames ≤ scratch_at n b.seats.items → frames ≤ scratch_at n new.seats.items
+      no_less n frames le =
+          let more = scratch_stays n b.seats.items seat in
+          let after : scratch_at n new.seats.items ≡ scratch_at n (b.seats.items ++ seat ∷ []) =
+          ap (scratch_at n) seated in
+          omega arith
+
       still_on : (e : StreamEntry E) → IsOn e b.book.registry.list b.seats.items →
           IsOn e new.book.registry.list new.seats.items
       still_on e on = record {
@@ -251,7 +263,10 @@ module _ {D E : Type 0} (state : E → EndState) (b : Board D E) (order : InOrde
             ap (find (is_endpoint e.endpoint.0)) list_is
             ∙ still_found (is_endpoint e.endpoint.0) b.book.registry.list on.endpoint endpoint on.there;
         fits = on.fits;
+        some = on.some;
+        longest = on.longest;
         lasts = on.lasts;
+        holds = no_less e.endpoint.0 e.period on.holds;
         suited = on.suited;
         behind = no_lower e.endpoint.0 e.position on.behind;
         hears = λ is. no_lower e.endpoint.0 e.ever (on.hears is);
@@ -312,6 +327,7 @@ module _ {D E : Type 0} (state : E → EndState) (b : Board D E) (order : InOrde
             subst (λ ss. AllZip Seats ss new.book.registry.list) (sym seated)
             (subst (AllZip Seats (b.seats.items ++ seat ∷ [])) (sym list_is)
             (zip_push b.seats.items b.book.registry.list seat endpoint order.seats fits));
+        alike = order.alike;
         book = added_book;
         room = order.room;
         seat_room = let room = order.seat_room in omega arith;

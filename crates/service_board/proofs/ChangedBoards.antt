@@ -27,7 +27,7 @@ use Rattle.service_book.specs.BookState.{book_state}
 use Rattle.service_book.specs.declared.book.Book.{Book}
 use Rattle.service_board.specs.Board.{playhead_of, state_of}
 use Rattle.stream_entries.specs.Closing.{Disconnects}
-use Rattle.service_board.specs.InOrder.{InOrder, IsOn, Seats, next_at, suits}
+use Rattle.service_board.specs.InOrder.{InOrder, IsOn, Seats, next_at, suits, scratch_at}
 use Rattle.service_board.specs.declared.board.Board.{Board}
 use Rattle.service_board.specs.declared.board.Seat.{Seat}
 use Rattle.service_board.proofs.ChangedEndpoints.{book_changed, found_changed}
@@ -143,7 +143,12 @@ module _ {D E : Type 0} (moves : E → List StoreStep → E → Type 0) (state :
       (keeps_rate : (e : Endpoint) → find (is_endpoint number) b.book.registry.list ≡ Some e → lost ≡ false →
       (f e).format.rate ≡ e.format.rate)
       (next : (n : ℕ) → next_at n seats.items ≡ next_at n b.seats.items)
+      (scratch : (n : ℕ) → scratch_at n b.seats.items ≤ scratch_at n seats.items)
     where
+      -- scratch is no less than it was
+      no_less : (n : ℕ) {period : ℕ} → period ≤ scratch_at n b.seats.items → period ≤ scratch_at n seats.items
+      no_less n le = let more = scratch n in omega arith
+
       abbrev one : Endpoint → Endpoint
       one e = if is_endpoint number e then f e else e
 
@@ -181,7 +186,10 @@ module _ {D E : Type 0} (moves : E → List StoreStep → E → Type 0) (state :
                 ∙ found_changed number f keeps_number n b.book.registry.list
                 ∙ ap (option_map one) on.there;
             fits = on.fits ∙ sym channels;
-            lasts = on.lasts ∙ sym (ap (λ k. frames_of_time k SHARED_PERIOD) rate);
+            some = on.some;
+            longest = on.longest;
+            lasts = λ shared. on.lasts shared ∙ sym (ap (λ k. frames_of_time k SHARED_PERIOD) rate);
+            holds = no_less n on.holds;
             suited = ap (λ k. suits k e.kind) (still_flow on.endpoint) ∙ on.suited;
             behind = subst (λ k. e.position ≤ k) (sym (next n)) on.behind;
             hears = λ loopback. subst (λ k. e.ever ≤ k) (sym (next n)) (on.hears loopback);

@@ -17,7 +17,7 @@ use Rattle.session_manager.specs.Sessions.{session_at}
 use Rattle.ca_machine.specs.declared.state.Client.{Client}
 use Rattle.ca_machine.specs.State.{is_client_of, is_connection, live_clients}
 use Rattle.period_engine.specs.declared.entry.StreamEntry.{StreamEntry}
-use Rattle.service_book.specs.Gains.{gains_by}
+use Rattle.service_book.specs.Gains.{gains_if}
 use Rattle.service_book.specs.InOrder.{HasLevels, IsBook, IsOwned}
 use Rattle.service_book.specs.declared.book.Book.{Book}
 use Rattle.service_board.specs.InOrder.{Belongs, InOrder}
@@ -35,6 +35,7 @@ rebooked state b book endpoints fits belongs order = record {
   rested = order.rested;
   belong =
       All-weaker (Belongs b.book b.seats.items) (Belongs book b.seats.items) belongs b.entries.items order.belong;
+  alike = order.alike;
   seats = rw endpoints order.seats;
   book = fits;
   room = order.room;
@@ -112,7 +113,8 @@ module _ (f : Client → Client) (book : Book) (clients : Vec Client) (changed :
     gains = λ same.
         let kept = changes.gains same in
         h.gains kept.0
-        ∙ ap (λ levels. gains_by levels (session_at e.session.0 book.sessions.list)) (sym (kept.1 h.client));
+        ∙ ap (λ levels. gains_if e.exclusive levels (session_at e.session.0 book.sessions.list))
+        (sym (kept.1 h.client));
   }
 
 -- a board stays in order

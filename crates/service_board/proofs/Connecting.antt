@@ -241,6 +241,7 @@ module _ {D E : Type 0} (b : Board D E) (conn process : ℕ) (name : List ℕ)
       belong =
           All-weaker (Belongs b.book b.seats.items) (Belongs with_connection b.seats.items) still_belongs
           b.entries.items order.belong;
+      alike = order.alike;
       seats = order.seats;
       book = opened_book;
       room = order.room;

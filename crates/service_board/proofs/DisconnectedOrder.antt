@@ -28,12 +28,13 @@ use Rattle.period_engine.specs.declared.entry.StreamEntry.{StreamEntry}
 use Rattle.period_engine.specs.Entries.{stream_with}
 use Rattle.period_engine.specs.SubSteps.{Turned}
 use Rattle.service_book.specs.InOrder.{IsBook}
-use Rattle.service_book.specs.Gains.{gains_by}
+use Rattle.service_book.specs.Gains.{gains_if}
 use Rattle.service_book.specs.declared.book.Book.{Book}
 use Rattle.stream_entries.specs.Closing.{Disconnects, closes_if, is_open_within}
 use Rattle.service_board.specs.InOrder.{Belongs, InOrder, IsOn, Seats}
 use Rattle.service_board.specs.declared.board.Board.{Board}
 use Rattle.service_board.specs.declared.board.Seat.{Seat}
+use Rattle.service_board.proofs.AlikeEntries.{IsKept, kept_alike}
 use Rattle.service_board.proofs.ByClient.{clients_of}
 use Rattle.service_board.proofs.StreamMoves.{on_kept}
 
@@ -60,7 +61,7 @@ lost_within None s = refl
 lost_within (Some number) s = refl
 
 module _ {E : Type 0} (moves : E → List StoreStep → E → Type 0) where
-  still_open : (lost : Bool) (reason : Reason) (scope : Option ℕ) (a b : StreamEntry E) →
+  pub still_open : (lost : Bool) (reason : Reason) (scope : Option ℕ) (a b : StreamEntry E) →
       Turned moves (closes_if lost reason scope) a b → b.gate ≡ gate.Open →
       (a.gate ≡ gate.Open) × (is_lost lost scope a.endpoint.0 ≡ false)
   still_open false reason scope a b turned opens = (sym turned.gate ∙ opens, refl)
@@ -107,6 +108,21 @@ module _ {E : Type 0} (moves : E → List StoreStep → E → Type 0) where
   clients_turned f [] (y ∷ ys) h = absurd h
   clients_turned f (x ∷ xs) [] h = absurd h
 
+  are_kept : (lost : Bool) (reason : Reason) (scope : Option ℕ) (xs ys : List (StreamEntry E)) →
+      AllZip (Turned moves (closes_if lost reason scope)) xs ys → AllZip IsKept xs ys
+  are_kept lost reason scope [] [] h = tt
+  are_kept lost reason scope (x ∷ xs) (y ∷ ys) h = (
+    record {
+      endpoint = ap (λ e. e.0) h.0.same.endpoint;
+      exclusive = h.0.same.exclusive;
+      period = h.0.same.period;
+      opens = λ opens. (still_open lost reason scope x y h.0 opens).0;
+    },
+    are_kept lost reason scope xs ys h.1,
+  )
+  are_kept lost reason scope [] (y ∷ ys) h = absurd h
+  are_kept lost reason scope (x ∷ xs) [] h = absurd h
+
   -- ---- entries still belong
 
   module _ (lost : Bool) (reason : Reason) (scope : Option ℕ) (book book' : Book) (seats seats' : List Seat)
@@ -136,8 +152,11 @@ module _ {E : Type 0} (moves : E → List StoreStep → E → Type 0) where
             gains = λ fresh.
                 turned.same.gains
                 ∙ h.gains (sym changed ∙ fresh)
-                ∙ ap₂ (λ (s : SessionNo) (list : List Session). gains_by h.client.levels (session_at s.0 list))
-                (sym turned.same.session) (ap (λ s. s.list) (sym sessions));
+                ∙ ap₂ (λ (s : SessionNo) (list : List Session).
+                gains_if a.exclusive h.client.levels (session_at s.0 list)) (sym turned.same.session)
+                (ap (λ s. s.list) (sym sessions))
+                ∙ ap (λ v. gains_if v h.client.levels (session_at b.session.0 book'.sessions.list))
+                (sym turned.same.exclusive);
           }
 
       all_belong : (xs ys : List (StreamEntry E)) → AllZip (Turned moves (closes_if lost reason scope)) xs ys →
@@ -168,6 +187,9 @@ module _ {E : Type 0} (moves : E → List StoreStep → E → Type 0) where
           (all_belong lost reason scope b.book book b.seats.items seats.items clients sessions changed keeps
           b.entries.items entries.items loses.turned
           (recursion_from_All (Belongs b.book b.seats.items) b.entries.items order.belong));
+      alike =
+          kept_alike b.entries.items entries.items
+          (are_kept lost reason scope b.entries.items entries.items loses.turned) order.alike;
       seats = fits;
       book = is_book;
       room = subst (λ n. CLIENTS ≤ n) (sym loses.room) order.room;

@@ -21,12 +21,13 @@ use Rattle.ca_machine.specs.Devices.{disconnects_if, is_within}
 use Rattle.ca_machine.specs.View.{Outside, Passes, outside}
 use Rattle.period_engine.specs.declared.entry.StreamEntry.{StreamEntry}
 use Rattle.period_engine.specs.Agreement.{AllAgree}
+use Rattle.period_engine.specs.Agreement.{ArePacked}
 use Rattle.period_engine.specs.Entries.{stream_of, streams_of}
 use Rattle.service_book.specs.BookState.{book_state}
 use Rattle.service_book.specs.declared.book.Book.{Book}
 use Rattle.service_board.specs.Board.{playhead_of, stage_with, state_of}
 use Rattle.stream_entries.specs.Closing.{Disconnects, closes_if, is_open_within}
-use Rattle.service_board.specs.Does.{AnyData, Does, Made, after_steps, store_at}
+use Rattle.service_board.specs.Does.{AnyData, Does, Made, after_steps, layout_at, store_at}
 use Rattle.service_board.specs.InOrder.{InOrder}
 use Rattle.service_board.specs.Lookups.{Says}
 use Rattle.service_board.specs.Plays.{AllGo}
@@ -60,19 +61,19 @@ pub record IsGranted (outcome : Outcome) (after : State) : Type 0 where
 module _ {D E : Type 0} (moves : E → List StoreStep → E → Type 0) (state : E → EndState) (b : Board D E)
     (order : InOrder state b) (lost : Bool) (reason : Reason) (scope : Option ℕ) (entries : Vec (StreamEntry E))
     (loses : Disconnects moves state lost reason scope b.entries entries) where
-  abbrev turned_steps : ℕ → List StoreStep
+  abbrev pub turned_steps : ℕ → List StoreStep
   turned_steps = steps_of moves (closes_if lost reason scope) b.entries.items entries.items loses.turned
 
-  abbrev close_steps : ℕ → List StoreStep
+  abbrev pub close_steps : ℕ → List StoreStep
   close_steps = within b.entries.items turned_steps
 
-  went : AllGo moves (closes_if lost reason scope) close_steps b.entries.items entries.items
+  pub went : AllGo moves (closes_if lost reason scope) close_steps b.entries.items entries.items
   went =
       go_alike moves (closes_if lost reason scope) turned_steps close_steps b.entries.items entries.items
       (within_each b.entries.items turned_steps)
       (all_turned moves (closes_if lost reason scope) 0 b.entries.items entries.items loses.turned order.order)
 
-  made : (client : ℕ) →
+  pub made : (client : ℕ) →
       Made moves None (close_steps client) (store_at client b.entries.items) (store_at client entries.items)
   made client =
       all_made moves (closes_if lost reason scope) close_steps None b.entries.items entries.items went client
@@ -89,7 +90,7 @@ module _ {D E : Type 0} (moves : E → List StoreStep → E → Type 0) (state :
   rises datas =
       subst (RisesFrom 0) (sym (map_map (λ (s : Stream). s.client) (stream_of datas) b.entries.items)) order.order
 
-  streams_are : (datas : ℕ → BufferData) → AllAgree close_steps datas b.entries.items →
+  pub streams_are : (datas : ℕ → BufferData) → AllAgree close_steps datas b.entries.items →
       streams_of (after_steps close_steps b.entries.items datas) entries.items
       ≡ (after_moves (stage_before datas) (close_moves datas)).streams
   streams_are datas agree =
@@ -97,6 +98,15 @@ module _ {D E : Type 0} (moves : E → List StoreStep → E → Type 0) (state :
       (after_steps close_steps b.entries.items datas) b.entries.items entries.items went agree
       (are_after close_steps b.entries.items datas order.order))
       ∙ closed_streams lost reason scope (stage_before datas) (rising_distinct 0 _ (rises datas))
+
+  -- each step stands in the layout of its store, and a client without a store takes none
+  pub packs : (client : ℕ) → ArePacked (layout_at client b.entries.items) (close_steps client)
+  packs client =
+      all_packed moves (closes_if lost reason scope) close_steps b.entries.items entries.items went client
+      (within_none b.entries.items turned_steps client)
+
+  pub none_steps : (client : ℕ) → store_at client b.entries.items ≡ None → close_steps client ≡ []
+  none_steps client none = within_none b.entries.items turned_steps client none
 
   -- the stage after them, with the playheads of these seats
   abbrev pub stage_after : List Seat → (ℕ → BufferData) → Stage
@@ -129,9 +139,7 @@ module _ {D E : Type 0} (moves : E → List StoreStep → E → Type 0) (state :
     disconnects_does faults told plan given says passes asks grants = record {
       steps = close_steps;
       made = made;
-      packs = λ client.
-          all_packed moves (closes_if lost reason scope) close_steps b.entries.items entries.items went client
-          (within_none b.entries.items turned_steps client);
+      packs = packs;
       does = λ datas tally agree knows.
           let st = state_of datas tally b in
           let granted = grants datas tally in

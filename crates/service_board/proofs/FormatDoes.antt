@@ -27,7 +27,7 @@ use Rattle.ca_machine.specs.State.{State, endpoint_at}
 use Rattle.ca_machine.specs.Plan.Answer.{found as memory_found}
 use Rattle.ca_machine.proofs.DevicesGive.{found_gives_none, passes_unread}
 use Rattle.ca_machine.specs.Devices.{missing_rows, set_format_plan, with_endpoint_format, with_format, with_named}
-use Rattle.ca_machine.specs.Periods.{period_frames}
+use Rattle.ca_machine.specs.Periods.{shared_frames}
 use Rattle.ca_machine.specs.Formats.{is_faulty, matches}
 use Rattle.ca_machine.specs.View.{outside}
 use Rattle.period_engine.specs.declared.entry.StreamEntry.{StreamEntry}
@@ -37,7 +37,8 @@ use Rattle.service_book.proofs.Rows.{row_holds, row_passes}
 use Rattle.service_board.specs.Board.{playhead_of, state_of}
 use Rattle.stream_entries.specs.Closing.{Disconnects}
 use Rattle.service_board.specs.Does.{AnyData, Does}
-use Rattle.service_board.specs.InOrder.{InOrder, Seats, next_at}
+use Rattle.service_board.specs.InOrder.{InOrder, Seats, next_at, scratch_at}
+use Rattle.service_board.proofs.AlikeEntries.{scratch_grows}
 use Rattle.service_board.specs.Lookups.{Says}
 use Rattle.service_board.specs.NamedEndpoints.{FindsNamed}
 use Rattle.service_board.specs.declared.board.Board.{Board}
@@ -116,8 +117,9 @@ module _ {D E : Type 0} (b : Board D E) (number at : ℕ) (bytes : List ℕ) (fo
       (entries : Vec (StreamEntry E))
       (loses : Disconnects moves state loses_streams Format (Some number) b.entries entries) (registry : EndpointList)
       (replaces : registry ≡ with_changed number (replaced_by read_endpoint) b.book.registry) (seat : Seat)
-      (seat_read : seat ≡ get_or b.seats.items at seat) (block : Block)
-      (size : IsBlockFor (period_frames read_endpoint) read.channels block)
+      (seat_read : seat ≡ get_or b.seats.items at seat) (block : Block) (frames : ℕ)
+      (fits : shared_frames read_endpoint ≤ frames) (more : seat.block.frames ≤ frames)
+      (size : IsBlockFor frames read.channels block)
     where
       abbrev new_seat : Seat
       new_seat = record { endpoint = seat.endpoint; next = seat.next; block = block }
@@ -166,7 +168,8 @@ module _ {D E : Type 0} (b : Board D E) (number at : ℕ) (bytes : List ℕ) (fo
       seat_fits =
           subst (λ (f : wave.Format). Seats new_seat (record (found.endpoint) { format = f })) read_spelled
           (seat_made new_seat read_endpoint (ap (λ (t : Seat). t.endpoint.0) (sym seat_is) ∙ its_seat.fits.number)
-          (subst (λ (t : Seat). t.next ≤ MAX_COUNT) seat_is its_seat.fits.next) size (read-valid bytes read spells))
+          (subst (λ (t : Seat). t.next ≤ MAX_COUNT) seat_is its_seat.fits.next) frames fits size
+          (read-valid bytes read spells))
 
       -- if the formats match, streams keep their channels and their period
       keeps_channels : (e : Endpoint) → find (is_endpoint number) b.book.registry.list ≡ Some e →
@@ -187,10 +190,17 @@ module _ {D E : Type 0} (b : Board D E) (number at : ℕ) (bytes : List ℕ) (fo
           ∙ ap (λ heads. place_of (find (λ (p : Playhead). p.number == n) heads)) heads_stay_same
           ∙ next_by_heads n b.seats.items
 
+      scratch_more : (n : ℕ) → scratch_at n b.seats.items ≤ scratch_at n new_seats.items
+      scratch_more =
+          scratch_grows b.seats.items at its_seat.seat new_seat its_seat.here
+          (ap (λ (t : Seat). t.endpoint.0) (sym seat_is))
+          (subst (λ (t : Seat). t.block.frames ≤ block.frames) (sym seat_is)
+          (subst (λ n. seat.block.frames ≤ n) (sym size.frames_are) more))
+
       pub format_order : InOrder state format_board
       format_order =
           changed_order moves state b order loses_streams Format number entries loses (with_format bytes) registry
-          registry_is new_seats (λ e. refl) (λ e. refl) keeps_channels keeps_rate next_stays
+          registry_is new_seats (λ e. refl) (λ e. refl) keeps_channels keeps_rate next_stays scratch_more
           (zip_replaced number 0 at (with_format bytes) b.seats.items b.book.registry.list new_seat found.endpoint
           order.book.endpoints found.here found.number_is seat_fits order.seats)
           order.seat_room

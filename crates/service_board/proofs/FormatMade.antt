@@ -1,7 +1,9 @@
 -- Another format of an endpoint: the endpoint that is made of the one that was read, and what is done with it.
-use Rattle.std.proofs.Common.{◌≡◌, ℕ, not, List, [], get_or, Bool, Option, Some, None, Ok, sym, ap, ◌∙◌, subst}
+use Rattle.std.proofs.Common.{◌≡◌, ℕ, ◌<◌, ◌≤◌, length, not, List, [], get_or, Bool, Option, Some, None, Ok, sym, ap}
+use Rattle.std.proofs.Common.{◌∙◌, subst}
 use Rattle.std.specs.Global.{Vec}
 use Rattle.std.specs.Vec.{with_item}
+use Rattle.std.proofs.lemmas.Option.{same_Some, slice_get-get_or}
 use Rattle.device_io.specs.DeviceLog.{DeviceLog}
 use Rattle.ca_base.specs.declared.codes.TheConstants.Hr as hr
 use Rattle.ca_base.specs.declared.ids.Reason.TheVariants.{Format}
@@ -16,7 +18,7 @@ use Rattle.device_registry.specs.Changes.{with_changed}
 use Rattle.device_registry.specs.Endpoints.{EndpointList, endpoint_at, replaced_by}
 use Rattle.device_registry.specs.Rows.{found_rows}
 use Rattle.ca_machine.specs.Devices.{set_format_plan}
-use Rattle.ca_machine.specs.Periods.{period_frames}
+use Rattle.ca_machine.specs.Periods.{shared_frames}
 use Rattle.ca_machine.specs.Formats.{matches}
 use Rattle.period_engine.specs.declared.entry.StreamEntry.{StreamEntry}
 use Rattle.period_engine.specs.declared.block.Block.{Block}
@@ -70,10 +72,9 @@ module _ {D E : Type 0} (b : Board D E) (number at : ℕ) (bytes : List ℕ) (li
       ∙ ap (λ n. with_changed n (replaced_by made) b.book.registry) number_is
       ∙ ap (λ e. with_changed number (replaced_by e) b.book.registry) made_is
 
-  size_by : (frames : ℕ) (block : Block) → frames ≡ period_frames made → IsBlockFor frames read.channels block →
-      IsBlockFor (period_frames (read_endpoint b number at bytes m.found read m.spells)) read.channels block
-  size_by frames block frames_are size =
-      subst (λ n. IsBlockFor n read.channels block) (frames_are ∙ ap period_frames made_is) size
+  fits_by : (frames : ℕ) → shared_frames made ≤ frames →
+      shared_frames (read_endpoint b number at bytes m.found read m.spells) ≤ frames
+  fits_by frames fits = subst (λ e. shared_frames e ≤ frames) made_is fits
 
   loses_by : (moves : E → List StoreStep → E → Type 0) (state : E → EndState) (entries : Vec (StreamEntry E))
       (matched : Bool) → matched ≡ matches old.format read →
@@ -91,8 +92,10 @@ module _ {D E : Type 0} (b : Board D E) (number at : ℕ) (bytes : List ℕ) (li
       (entries : Vec (StreamEntry E)) (matched : Bool) (matched_is : matched ≡ matches old.format read)
       (loses : Disconnects moves state (not matched) Format (Some number) b.entries entries) (registry : EndpointList)
       (now : registry ≡ with_changed made.no.0 (replaced_by made) b.book.registry) (seat : Seat)
-      (seat_read : seat ≡ get_or b.seats.items at seat) (frames : ℕ) (frames_are : frames ≡ period_frames made)
-      (block : Block) (size : IsBlockFor frames read.channels block)
+      (seat_read : seat ≡ get_or b.seats.items at seat) (before : Seat)
+      (before_read : before ≡ get_or b.seats.items at before) (there : at < length b.seats.items) (frames : ℕ)
+      (fits : shared_frames made ≤ frames) (no_less : before.block.frames ≤ frames) (block : Block)
+      (size : IsBlockFor frames read.channels block)
     where
       abbrev made_board : Board D E
       made_board = record b {
@@ -101,18 +104,26 @@ module _ {D E : Type 0} (b : Board D E) (number at : ℕ) (bytes : List ℕ) (li
         entries = entries;
       }
 
+      more : seat.block.frames ≤ frames
+      more =
+          subst (λ (t : Seat). t.block.frames ≤ frames)
+          (before_read
+          ∙ same_Some (get_or b.seats.items at before) (get_or b.seats.items at seat)
+          (sym (slice_get-get_or b.seats.items at before there) ∙ slice_get-get_or b.seats.items at seat there)
+          ∙ sym seat_read) no_less
+
       made_does : (faults : D → ℕ) (told : D → Option (List DeviceLog)) →
           Does faults told moves None AnyData b made_board (λ st. set_format_plan st number bytes) hr.S_OK []
       made_does =
           format_does b number at bytes m.found read m.spells moves state order entries
           (loses_by moves state entries matched matched_is loses) registry (replaces_by registry now) seat seat_read
-          block (size_by frames block frames_are size)
+          block frames (fits_by frames fits) more size
 
       made_order : InOrder state made_board
       made_order =
           format_order b number at bytes m.found read m.spells moves state order entries
           (loses_by moves state entries matched matched_is loses) registry (replaces_by registry now) seat seat_read
-          block (size_by frames block frames_are size)
+          block frames (fits_by frames fits) more size
 
       -- what such an event does, and that the board stays in order
       pub made_ends : (faults : D → ℕ) (told : D → Option (List DeviceLog)) →

@@ -14,6 +14,7 @@ use Rattle.service_book.specs.declared.book.Book.{Book}
 use Rattle.service_board.specs.Gains.{HasSameStream}
 use Rattle.stream_entries.specs.Gains.{HasClient, Regains}
 use Rattle.service_board.specs.InOrder.{Belongs, InOrder, Seats}
+use Rattle.service_board.proofs.AlikeEntries.{IsKept, kept_alike}
 use Rattle.service_board.specs.declared.board.Board.{Board}
 use Rattle.service_board.specs.declared.board.Seat.{Seat}
 
@@ -97,7 +98,10 @@ module _ {E : Type 0} (book : Book) where
               endpoint = on.endpoint;
               there = on.there;
               fits = on.fits;
+              some = on.some;
+              longest = on.longest;
               lasts = on.lasts;
+              holds = on.holds;
               suited = on.suited;
               behind = on.behind;
               hears = on.hears;
@@ -113,6 +117,22 @@ module _ {E : Type 0} (book : Book) where
       (one_belongs seats x y h.0 belong.0, all_belong seats xs ys h.1 belong.1)
   all_belong seats [] (y ∷ ys) h belong = absurd h
   all_belong seats (x ∷ xs) [] h belong = absurd h
+
+-- all but the gains is as it was
+kept_regained : {E : Type 0} (book : Book) (xs ys : List (StreamEntry E)) → AllZip (Regains book) xs ys →
+    AllZip IsKept xs ys
+kept_regained book [] [] h = tt
+kept_regained book (x ∷ xs) (y ∷ ys) h = (
+  record {
+    endpoint = ap (λ e. e.endpoint.0) h.0.same;
+    exclusive = ap (λ e. e.exclusive) h.0.same;
+    period = ap (λ e. e.period) h.0.same;
+    opens = λ opens. sym (ap (λ e. e.gate) h.0.same) ∙ opens;
+  },
+  kept_regained book xs ys h.1,
+)
+kept_regained book [] (y ∷ ys) h = absurd h
+kept_regained book (x ∷ xs) [] h = absurd h
 
 -- what was computed anew of a board's entries is there
 pub regained_there : {D E : Type 0} (old : Board D E) (xs ws : List (StreamEntry E)) → xs ≡ old.entries.items →
@@ -142,6 +162,7 @@ fresh_order state old new order book seats drafts room regains =
           (All-from_recursion (Belongs (fresh_book old.book) old.seats.items) ys
           (all_belong old.book old.seats.items xs ys regains
           (recursion_from_All (Belongs old.book old.seats.items) xs order.belong))));
+      alike = kept_alike xs ys (kept_regained old.book xs ys regains) order.alike;
       seats =
           subst (λ k. AllZip Seats new.seats.items k.registry.list) (sym book)
           (subst (λ s. AllZip Seats s.items old.book.registry.list) (sym seats) order.seats);

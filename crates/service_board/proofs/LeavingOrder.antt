@@ -19,11 +19,12 @@ use Rattle.ca_machine.specs.State.{is_connection, live_clients}
 use Rattle.ca_machine.specs.Clients.{is_client_on}
 use Rattle.period_engine.specs.declared.entry.StreamEntry.{StreamEntry}
 use Rattle.period_engine.specs.Entries.{IsRested}
-use Rattle.service_book.specs.Gains.{gains_by}
+use Rattle.service_book.specs.Gains.{gains_if}
 use Rattle.service_book.specs.InOrder.{HasLevels, IsBook, IsOpen, IsOwned}
 use Rattle.service_book.specs.Leaving.{is_live}
 use Rattle.service_book.specs.declared.book.Book.{Book}
-use Rattle.service_board.specs.InOrder.{Belongs, InOrder}
+use Rattle.service_board.specs.InOrder.{AreAlike, Belongs, InOrder}
+use Rattle.service_board.proofs.AlikeEntries.{alike_filtered}
 use Rattle.service_board.specs.Leaving.{Forgets}
 use Rattle.stream_entries.specs.Leaving.{is_in_use, is_of_live}
 use Rattle.service_board.specs.declared.board.Board.{Board}
@@ -160,7 +161,7 @@ module _ {D E : Type 0} (state : E → EndState) (moves : E → List StoreStep �
     on = h.on;
     opens = h.opens;
     within = h.within;
-    gains = λ fresh. h.gains fresh ∙ ap (gains_by h.client.levels) (sym (session_kept e.session.0 used));
+    gains = λ fresh. h.gains fresh ∙ ap (gains_if e.exclusive h.client.levels) (sym (session_kept e.session.0 used));
   }
 
   -- one of them belonged to the book before
@@ -192,6 +193,9 @@ module _ {D E : Type 0} (state : E → EndState) (moves : E → List StoreStep �
             subst (All (IsRested state)) (sym forgets.streams.left)
             (All-filter (is_of_live book.clients.items) (IsRested state) b.entries.items order.rested);
         belong = subst (All (Belongs last_book b.seats.items)) (sym forgets.streams.left) all_belong;
+        alike =
+            subst AreAlike (sym forgets.streams.left)
+            (alike_filtered (is_of_live book.clients.items) b.entries.items order.alike);
         seats = order.seats;
         book = book_left;
         room = let r = order.room in let s = forgets.room in omega arith;

@@ -7,6 +7,8 @@ pub mod StreamRows
 pub mod OneEntry
 pub mod StreamMoves
 pub mod RunningStreams
+pub mod PeriodLengths
+pub mod AlikeEntries
 pub mod PeriodSizes
 pub mod EmptiedEntries
 pub mod PlainEvents
@@ -47,6 +49,7 @@ pub mod Memory
 pub mod FormatDoes
 pub mod FormatMade
 pub mod Opened
+pub mod TakenOver
 pub mod OpenedOrder
 pub mod Places
 pub mod OpeningRows

@@ -1,5 +1,6 @@
 -- What an event does on a board with the endpoint that it names: another state, name or format, and a choice.
-use Rattle.std.proofs.Common.{◌≡◌, ℕ, not, List, [], ◌∷◌, get_or, Bool, Option, Some, None, Ok, Err, refl, sym, ap, ◌∙◌}
+use Rattle.std.proofs.Common.{arith, ◌≡◌, ℕ, not, List, [], ◌∷◌, get_or, Bool, Option, Some, None, Ok, Err, refl, sym}
+use Rattle.std.proofs.Common.{ap, ◌∙◌}
 use Rattle.std.proofs.Common.{subst}
 use Rattle.std.specs.Global.{Vec}
 use Rattle.std.proofs.lemmas.Option.{get_or_from_slice_get}
@@ -100,13 +101,13 @@ module _ {D E : Type 0} (b : Board D E) (number at to : ℕ) (found : FindsNamed
             InOrder state state_board
         state_order lost loses =
             changed_order moves state b order lost Removal number entries loses (with_state to) registry sets.now
-            b.seats (λ e. refl) (λ e. refl) (λ e found left. refl) (λ e found left. refl) (λ n. refl)
+            b.seats (λ e. refl) (λ e. refl) (λ e found left. refl) (λ e found left. refl) (λ n. refl) (λ n. omega arith)
             (zip_changed number (with_state to) b.seats.items b.book.registry.list
             (λ t e fits. record {
               number = fits.number;
               next = fits.next;
               block = fits.block;
-              feed = fits.feed;
+              fits = fits.fits;
               format = fits.format;
             })
             order.seats)

@@ -12,7 +12,7 @@ use Rattle.period_engine.specs.Entries.{AreInOrder, IsRested}
 use Rattle.service_book.specs.InOrder.{HasLevels, IsBook, IsOpen, IsOwned}
 use Rattle.service_book.specs.New.{IsEmptyBook}
 use Rattle.service_book.specs.declared.book.Book.{Book}
-use Rattle.service_board.specs.InOrder.{Belongs, Seats}
+use Rattle.service_board.specs.InOrder.{AreAlike, Belongs, Seats}
 use Rattle.service_board.specs.New.{IsNewBoard}
 use Rattle.service_board.specs.declared.board.Board.{Board}
 
@@ -43,6 +43,7 @@ new_board state b empty seats entries seat_room room draft_room = record {
     order = subst AreInOrder (sym entries) tt;
     rested = subst (All (IsRested state)) (sym entries) (All-nil _);
     belong = subst (All (Belongs b.book b.seats.items)) (sym entries) (All-nil _);
+    alike = subst AreAlike (sym entries) (All-nil _);
     seats =
         subst (λ xs. AllZip Seats xs b.book.registry.list) (sym seats)
         (subst (λ (r : EndpointList). AllZip Seats [] r.list) (sym empty.registry) tt);

@@ -1,23 +1,22 @@
 -- What the rows of an Initialize say on a board, one after another.
-use Rattle.std.proofs.Common.{◌≡◌, ℕ, ◌*◌, ◌≤◌, ◌||◌, ◌&&◌, not, List, [], ◌∷◌, arith}
+use Rattle.std.proofs.Common.{◌≡◌, ℕ, ◌||◌, not, List, [], ◌∷◌}
 use Rattle.std.proofs.Common.{◌++◌, length, Bool, true, false, Option, Some, None}
 use Rattle.std.proofs.Common.{refl, sym, ap, ◌∙◌, if◌then◌else◌, is_some, get_or}
-use Rattle.std.proofs.Common.{◌<◌}
+use Rattle.std.proofs.Common.{◌<◌, map, filter}
 use Rattle.std.specs.Option.{option_map_or}
 use Rattle.std.specs.List.{find, list_any, position}
-use Rattle.std.proofs.lemmas.Bool.Decides.{nat_tests}
 use Rattle.std.proofs.lemmas.Option.{get_or_from_slice_get, none-some}
 use Rattle.device_io.specs.DeviceLog.{DeviceLog}
 use Rattle.ca_base.specs.declared.codes.Hr.{Hr}
 use Rattle.ca_base.specs.declared.codes.TheConstants.Hr as hr
 use Rattle.ca_base.specs.declared.ids.EndpointNo.{EndpointNo}
-use Rattle.ca_base.specs.declared.limits.TheConstants.{MAX_STORE_WORDS, SHARED_PERIOD}
 use Rattle.ca_base.specs.Rows.{Row, first}
-use Rattle.wave_format.specs.Format.{frames_of_time, is_listed}
 use Rattle.session_manager.specs.declared.session.SessionKey.{SessionKey}
 use Rattle.session_manager.specs.Rows.{join_rows}
-use Rattle.ca_stage.specs.Stage.{BufferData}
+use Rattle.ca_stage.specs.Stage.{BufferData, Stream}
 use Rattle.ca_stage.specs.Moves.{stream_at}
+use Rattle.ca_stage.specs.Periods.{is_open_on}
+use Rattle.ca_stage.proofs.Lists.{map_map}
 use Rattle.ca_stage.specs.Tally.{Tally}
 use Rattle.ca_machine.specs.declared.state.Client.{Client}
 use Rattle.ca_machine.specs.declared.state.Connection.{Connection}
@@ -26,13 +25,15 @@ use Rattle.ca_machine.specs.State.{State, client_of, is_connection}
 use Rattle.device_registry.specs.Endpoints.{is_endpoint}
 use Rattle.ca_machine.specs.SharedRows.{connection_rows, control_rows, endpoint_of, shut_rows}
 use Rattle.ca_machine.specs.Streams.{endpoint_rows}
-use Rattle.ca_machine.specs.Openings.{has_loopback, initialize_rows, is_capturing}
-use Rattle.ca_machine.specs.Formats.{has_no_match}
-use Rattle.ca_machine.specs.Openings.{is_cross_process, joining_rows, later_rows, session_key}
-use Rattle.ca_machine.specs.Formats.{is_faulty, is_malformed}
-use Rattle.ca_machine.specs.Openings.{shared_buffer}
+use Rattle.exclusive_mode.specs.Claims.{claim, claim_rows}
+use Rattle.ca_machine.specs.Formats.{is_exclusive}
+use Rattle.ca_machine.specs.Openings.{argument_rows, claim_of, initialize_rows, is_cross_process, joining_rows}
+use Rattle.ca_machine.specs.Openings.{session_key}
+use Rattle.period_engine.specs.declared.entry.StreamEntry.{StreamEntry}
+use Rattle.period_engine.specs.Entries.{stream_of, streams_of}
+use Rattle.stream_entries.specs.Holding.{held_on, is_open_entry}
 use Rattle.buffer_ring.specs.declared.step.StoreStep.{StoreStep}
-use Rattle.service_book.specs.Openings.{argument_rows, arguments, flow_rows, format_rows, key_by, opening_plan}
+use Rattle.service_book.specs.Openings.{arguments, key_by, opening_plan}
 use Rattle.service_book.specs.declared.opening.Opening.{Opening as Asked}
 use Rattle.service_book.proofs.Finding.{found_at, none_at}
 use Rattle.service_board.specs.Board.{state_of}
@@ -40,6 +41,7 @@ use Rattle.service_board.specs.Does.{AnyData, Does}
 use Rattle.service_board.specs.Lookups.{FindsEndpoint, Says}
 use Rattle.stream_entries.specs.Search.{is_entry_of}
 use Rattle.service_board.specs.declared.board.Board.{Board}
+use Rattle.service_board.proofs.KeptEntries.{kept_mapped}
 use Rattle.service_board.proofs.PlainEvents.{refused_does}
 use Rattle.service_board.proofs.LookingUp.{no_stream, says_front, says_later, stream_there}
 
@@ -62,26 +64,27 @@ any_none test (y ∷ xs) e = by (test y) e (any_none test xs)
     by true h later = absurd (none-some y (sym h))
     by false h later = later h
 
+-- the open streams on an endpoint, by entries
+pub held_alike : {E : Type 0} (n : ℕ) (datas : ℕ → BufferData) (entries : List (StreamEntry E)) →
+    map (λ (s : Stream). record { client = record { 0 = s.client }; exclusive = s.exclusive })
+    (filter (is_open_on n) (streams_of datas entries))
+    ≡ held_on n entries
+held_alike {E} n datas entries =
+    ap (map (λ (s : Stream). record { client = record { 0 = s.client }; exclusive = s.exclusive }))
+    (kept_mapped (stream_of datas) (is_open_on n) (is_open_entry n) (λ x. refl) entries)
+    ∙ map_map (λ (s : Stream). record { client = record { 0 = s.client }; exclusive = s.exclusive }) (stream_of datas)
+    (filter (is_open_entry n) entries)
+
 -- ---- the rows of an Initialize's own, as they look its client up
 
 abbrev pub stream_row : Asked → State → List (Row Hr)
 stream_row x st = (is_some (stream_at x.client.0 st.stage), hr.ALREADY_INITIALIZED) ∷ []
 
-abbrev pub own_flow_rows : Asked → State → List (Row Hr)
-own_flow_rows x st = (
-  has_loopback x.flags && is_capturing (endpoint_of st (client_of x.conn.0 x.client.0 st)),
-  hr.WRONG_ENDPOINT_TYPE,
-)
-    ∷ []
+abbrev pub own_argument_rows : Asked → State → List (Row Hr)
+own_argument_rows x st = argument_rows (endpoint_of st (client_of x.conn.0 x.client.0 st)) (arguments x)
 
-abbrev pub own_format_rows : Asked → State → List (Row Hr)
-own_format_rows x st =
-    (is_malformed x.format.now, hr.E_INVALIDARG)
-    ∷ (
-      is_faulty x.format.now || has_no_match (endpoint_of st (client_of x.conn.0 x.client.0 st)) x.format.now,
-      hr.UNSUPPORTED_FORMAT,
-    )
-    ∷ []
+abbrev pub own_claim_rows : Asked → State → List (Row Hr)
+own_claim_rows x st = claim_rows (claim_of st (endpoint_of st (client_of x.conn.0 x.client.0 st)) (arguments x))
 
 abbrev pub own_session_rows : Asked → State → List (Row Hr)
 own_session_rows x st = joining_rows st x.conn.0 (client_of x.conn.0 x.client.0 st) (arguments x)
@@ -167,28 +170,23 @@ module _ {D E : Type 0} (b : Board D E) (x : Asked) where
         ∙ found.active.found
         ∙ ap (λ y. Some y) same
 
-    abbrev flow_verdict : Option Endpoint → Option Hr
-    flow_verdict o = first ((has_loopback x.flags && is_capturing o, hr.WRONG_ENDPOINT_TYPE) ∷ [])
-
-    pub flow_says : (e : Endpoint) → found.active.endpoint ≡ e → (verdict : Option Hr) →
-        first (flow_rows e.flow (arguments x)) ≡ verdict → Says b (own_flow_rows x) verdict
-    flow_says e same verdict says datas tally =
-        ap (λ o. flow_verdict (endpoint_of (state_of datas tally b) o)) found.found
-        ∙ ap flow_verdict (found.active.found ∙ ap (λ y. Some y) same)
+    pub argument_says : (e : Endpoint) → found.active.endpoint ≡ e → (verdict : Option Hr) →
+        first (argument_rows (Some e) (arguments x)) ≡ verdict → Says b (own_argument_rows x) verdict
+    argument_says e same verdict says datas tally =
+        ap (λ o. first (argument_rows (endpoint_of (state_of datas tally b) o) (arguments x))) found.found
+        ∙ ap (λ o. first (argument_rows o (arguments x))) (found.active.found ∙ ap (λ y. Some y) same)
         ∙ says
 
-    abbrev format_verdict : Option Endpoint → Option Hr
-    format_verdict o = first (
-        (is_malformed x.format.now, hr.E_INVALIDARG)
-        ∷ (is_faulty x.format.now || has_no_match o x.format.now, hr.UNSUPPORTED_FORMAT)
-        ∷ []
-        )
-
-    pub format_says : (e : Endpoint) → found.active.endpoint ≡ e → (verdict : Option Hr) →
-        first (format_rows e.format (arguments x)) ≡ verdict → Says b (own_format_rows x) verdict
-    format_says e same verdict says datas tally =
-        ap (λ o. format_verdict (endpoint_of (state_of datas tally b) o)) found.found
-        ∙ ap format_verdict (found.active.found ∙ ap (λ y. Some y) same)
+    pub claim_says : (e : Endpoint) → found.active.endpoint ≡ e → (verdict : Option Hr) →
+        first (claim_rows (claim (is_exclusive x.share) (held_on e.no.0 b.entries.items) e.priority)) ≡ verdict →
+        Says b (own_claim_rows x) verdict
+    claim_says e same verdict says datas tally =
+        ap (λ o. first (claim_rows (claim_of (state_of datas tally b) (endpoint_of (state_of datas tally b) o)
+        (arguments x)))) found.found
+        ∙ ap (λ o. first (claim_rows (claim_of (state_of datas tally b) o (arguments x))))
+        (found.active.found ∙ ap (λ y. Some y) same)
+        ∙ ap (λ held. first (claim_rows (claim (is_exclusive x.share) held e.priority)))
+        (held_alike e.no.0 datas b.entries.items)
         ∙ says
 
     pub session_says : (e : Endpoint) → found.active.endpoint ≡ e → (c : Connection) →
@@ -210,112 +208,80 @@ module _ (x : Asked) where
   all_rows st = initialize_rows st x.conn.0 x.client.0 (arguments x)
 
   abbrev pub two : Rows
-  two st = control_rows x.conn.0 st ++ later_rows (arguments x)
+  two st = control_rows x.conn.0 st ++ endpoint_rows st x.conn.0 x.client.0
 
   abbrev pub three : Rows
-  three st = two st ++ endpoint_rows st x.conn.0 x.client.0
+  three st = two st ++ stream_row x st
 
   abbrev pub four : Rows
-  four st = three st ++ stream_row x st
+  four st = three st ++ own_argument_rows x st
 
   abbrev pub five : Rows
-  five st = four st ++ argument_rows (arguments x)
-
-  abbrev pub six : Rows
-  six st = five st ++ own_flow_rows x st
-
-  abbrev pub seven : Rows
-  seven st = six st ++ own_format_rows x st
-
-  abbrev behind_six : Rows
-  behind_six st = own_format_rows x st ++ own_session_rows x st
-
-  abbrev behind_five : Rows
-  behind_five st = own_flow_rows x st ++ behind_six st
+  five st = four st ++ own_claim_rows x st
 
   abbrev behind_four : Rows
-  behind_four st = argument_rows (arguments x) ++ behind_five st
+  behind_four st = own_claim_rows x st ++ own_session_rows x st
 
   abbrev behind_three : Rows
-  behind_three st = stream_row x st ++ behind_four st
+  behind_three st = own_argument_rows x st ++ behind_four st
 
   abbrev behind_two : Rows
-  behind_two st = endpoint_rows st x.conn.0 x.client.0 ++ behind_three st
+  behind_two st = stream_row x st ++ behind_three st
 
   abbrev behind_one : Rows
-  behind_one st = later_rows (arguments x) ++ behind_two st
+  behind_one st = endpoint_rows st x.conn.0 x.client.0 ++ behind_two st
 
 module _ {D E : Type 0} (b : Board D E) (x : Asked) where
-  pub past_later : Says b (control_rows x.conn.0) None → first (later_rows (arguments x)) ≡ None → Says b (two x) None
-  past_later passes says =
-      says_later b (control_rows x.conn.0) (λ st. later_rows (arguments x)) None passes (λ datas tally. says)
-
-  pub past_endpoint : (at : ℕ) → FindsEndpoint x.conn.0 x.client.0 b at → Says b (two x) None → Says b (three x) None
+  pub past_endpoint : (at : ℕ) → FindsEndpoint x.conn.0 x.client.0 b at → Says b (control_rows x.conn.0) None →
+      Says b (two x) None
   past_endpoint at found passes =
-      says_later b (two x) (λ st. endpoint_rows st x.conn.0 x.client.0) None passes found.says
+      says_later b (control_rows x.conn.0) (λ st. endpoint_rows st x.conn.0 x.client.0) None passes found.says
 
-  pub past_stream : find (is_entry_of x.client.0) b.entries.items ≡ None → Says b (three x) None →
-      Says b (four x) None
-  past_stream none passes = says_later b (three x) (stream_row x) None passes (stream_says b x none)
+  pub past_stream : find (is_entry_of x.client.0) b.entries.items ≡ None → Says b (two x) None → Says b (three x) None
+  past_stream none passes = says_later b (two x) (stream_row x) None passes (stream_says b x none)
 
-  pub past_arguments : first (argument_rows (arguments x)) ≡ None → Says b (four x) None → Says b (five x) None
-  past_arguments says passes =
-      says_later b (four x) (λ st. argument_rows (arguments x)) None passes (λ datas tally. says)
+  pub past_arguments : Says b (own_argument_rows x) None → Says b (three x) None → Says b (four x) None
+  past_arguments says passes = says_later b (three x) (own_argument_rows x) None passes says
 
-  pub past_flow : Says b (own_flow_rows x) None → Says b (five x) None → Says b (six x) None
-  past_flow says passes = says_later b (five x) (own_flow_rows x) None passes says
+  pub past_claim : Says b (own_claim_rows x) None → Says b (four x) None → Says b (five x) None
+  past_claim says passes = says_later b (four x) (own_claim_rows x) None passes says
 
-  pub past_format : Says b (own_format_rows x) None → Says b (six x) None → Says b (seven x) None
-  past_format says passes = says_later b (six x) (own_format_rows x) None passes says
+  pub past_session : Says b (own_session_rows x) None → Says b (five x) None → Says b (all_rows x) None
+  past_session says passes = says_later b (five x) (own_session_rows x) None passes says
 
-  pub past_session : Says b (own_session_rows x) None → Says b (seven x) None → Says b (all_rows x) None
-  past_session says passes = says_later b (seven x) (own_session_rows x) None passes says
-
-  -- past the rows before that of the flow
-  pub past_five : (from at : ℕ) → Some from ≡ position (is_connection x.conn.0) b.book.connections.items →
-      Says b shut_rows None → first (later_rows (arguments x)) ≡ None → FindsEndpoint x.conn.0 x.client.0 b at →
-      find (is_entry_of x.client.0) b.entries.items ≡ None → first (argument_rows (arguments x)) ≡ None →
-      Says b (five x) None
-  past_five from at connected runs later found none says =
-      past_arguments says (past_stream none (past_endpoint at found
-      (past_later (connected_says b x from connected runs) later)))
+  -- past the rows before those over the arguments
+  pub past_three : (from at : ℕ) → Some from ≡ position (is_connection x.conn.0) b.book.connections.items →
+      Says b shut_rows None → FindsEndpoint x.conn.0 x.client.0 b at →
+      find (is_entry_of x.client.0) b.entries.items ≡ None → Says b (three x) None
+  past_three from at connected runs found none =
+      past_stream none (past_endpoint at found (connected_says b x from connected runs))
 
   pub at_control : (code : Hr) → Says b (control_rows x.conn.0) (Some code) → Says b (all_rows x) (Some code)
   at_control code says = says_front b (control_rows x.conn.0) (behind_one x) code says
 
-  pub at_later : (code : Hr) → first (later_rows (arguments x)) ≡ Some code →
-      Says b (control_rows x.conn.0) None → Says b (all_rows x) (Some code)
-  at_later code says passes = says_front b (two x) (behind_two x) code
-      (says_later b (control_rows x.conn.0) (λ st. later_rows (arguments x)) (Some code) passes (λ datas tally. says))
-
   pub at_endpoint : (code : Hr) → Says b (λ st. endpoint_rows st x.conn.0 x.client.0) (Some code) →
-      Says b (two x) None → Says b (all_rows x) (Some code)
-  at_endpoint code says passes = says_front b (three x) (behind_three x) code
-      (says_later b (two x) (λ st. endpoint_rows st x.conn.0 x.client.0) (Some code) passes says)
+      Says b (control_rows x.conn.0) None → Says b (all_rows x) (Some code)
+  at_endpoint code says passes = says_front b (two x) (behind_two x) code
+      (says_later b (control_rows x.conn.0) (λ st. endpoint_rows st x.conn.0 x.client.0) (Some code) passes says)
 
-  pub at_stream : (code : Hr) → Says b (stream_row x) (Some code) → Says b (three x) None →
+  pub at_stream : (code : Hr) → Says b (stream_row x) (Some code) → Says b (two x) None →
       Says b (all_rows x) (Some code)
-  at_stream code says passes = says_front b (four x) (behind_four x) code
-      (says_later b (three x) (stream_row x) (Some code) passes says)
+  at_stream code says passes = says_front b (three x) (behind_three x) code
+      (says_later b (two x) (stream_row x) (Some code) passes says)
 
-  pub at_arguments : (code : Hr) → first (argument_rows (arguments x)) ≡ Some code → Says b (four x) None →
+  pub at_arguments : (code : Hr) → Says b (own_argument_rows x) (Some code) → Says b (three x) None →
       Says b (all_rows x) (Some code)
-  at_arguments code says passes = says_front b (five x) (behind_five x) code
-      (says_later b (four x) (λ st. argument_rows (arguments x)) (Some code) passes (λ datas tally. says))
+  at_arguments code says passes = says_front b (four x) (behind_four x) code
+      (says_later b (three x) (own_argument_rows x) (Some code) passes says)
 
-  pub at_flow : (code : Hr) → Says b (own_flow_rows x) (Some code) → Says b (five x) None →
+  pub at_claim : (code : Hr) → Says b (own_claim_rows x) (Some code) → Says b (four x) None →
       Says b (all_rows x) (Some code)
-  at_flow code says passes = says_front b (six x) (behind_six x) code
-      (says_later b (five x) (own_flow_rows x) (Some code) passes says)
+  at_claim code says passes = says_front b (five x) (own_session_rows x) code
+      (says_later b (four x) (own_claim_rows x) (Some code) passes says)
 
-  pub at_format : (code : Hr) → Says b (own_format_rows x) (Some code) → Says b (six x) None →
+  pub at_session : (code : Hr) → Says b (own_session_rows x) (Some code) → Says b (five x) None →
       Says b (all_rows x) (Some code)
-  at_format code says passes = says_front b (seven x) (own_session_rows x) code
-      (says_later b (six x) (own_format_rows x) (Some code) passes says)
-
-  pub at_session : (code : Hr) → Says b (own_session_rows x) (Some code) → Says b (seven x) None →
-      Says b (all_rows x) (Some code)
-  at_session code says passes = says_later b (seven x) (own_session_rows x) (Some code) passes says
+  at_session code says passes = says_later b (five x) (own_session_rows x) (Some code) passes says
 
 -- a refused one does nothing
 pub opening_refused : {D E : Type 0} (faults : D → ℕ) (told : D → Option (List DeviceLog))
@@ -323,21 +289,3 @@ pub opening_refused : {D E : Type 0} (faults : D → ℕ) (told : D → Option (
     Says b (all_rows x) (Some code) → Does faults told moves None AnyData b b (opening_plan x) code []
 opening_refused faults told moves stays b x code says =
     refused_does faults told moves None AnyData stays b (opening_plan x) code says
-
--- ---- the sizes of a buffer: it has some periods, each of some frames, and with a word more for each it fits a store
-
-listed_within : (rate : ℕ) → is_listed rate ≡ true → (8000 ≤ rate) × (rate ≤ 96000)
-listed_within rate h = (grind (arith, nat_tests), grind (arith, nat_tests))
-
-pub period_some : (rate : ℕ) → is_listed rate ≡ true → 1 ≤ frames_of_time rate SHARED_PERIOD
-period_some rate h =
-    let least = (listed_within rate h).0 in
-    omega arith
-
-pub buffer_whole : (rate duration : ℕ) → frames_of_time rate SHARED_PERIOD ≤ shared_buffer rate duration
-buffer_whole rate duration = omega arith
-
-pub buffer_most : (rate duration : ℕ) → is_listed rate ≡ true → 2 * shared_buffer rate duration ≤ MAX_STORE_WORDS
-buffer_most rate duration h =
-    let most = (listed_within rate h).1 in
-    omega arith

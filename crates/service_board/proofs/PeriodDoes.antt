@@ -1,5 +1,5 @@
 -- A period on a board is the machine's period.
-use Rattle.std.proofs.Common.{◌≡◌, ℕ, ◌<◌, ◌==◌, ◌&&◌, List, [], ◌∷◌, length, map, Bool, true, false}
+use Rattle.std.proofs.Common.{◌+◌, ◌≡◌, ℕ, ◌<◌, ◌==◌, ◌&&◌, List, [], ◌∷◌, length, map, Bool, true, false}
 use Rattle.std.proofs.Common.{Option, Some}
 use Rattle.std.proofs.Common.{None, refl, sym, ap, ap₂, ◌∙◌, subst, arith, if◌then◌else◌, slice_get}
 use Rattle.std.specs.Prelude.{slice_index}
@@ -34,10 +34,12 @@ use Rattle.ca_stage.proofs.Mixing.{mix_sums}
 use Rattle.ca_stage.proofs.Periods.{period_by}
 use Rattle.ca_stage.proofs.SubSteps.{plays_on as plays_open_on}
 use Rattle.device_registry.specs.declared.endpoint.Endpoint.{Endpoint}
-use Rattle.ca_machine.specs.State.{State, empty_state}
+use Rattle.ca_machine.specs.State.{empty_state}
 use Rattle.ca_machine.specs.Plan.{Answer, IsWriting, pieces}
 use Rattle.ca_machine.specs.Plan as plan
-use Rattle.ca_machine.specs.Periods.{bytes_due, mixing_of, period_frames, period_of, period_payload, period_plan}
+use Rattle.ca_machine.specs.Periods.{bytes_due, mixing_of, period_of, period_payload, period_plan}
+use Rattle.stream_entries.specs.Holding.{period_frames}
+use Rattle.service_board.proofs.PeriodLengths.{frames_alike}
 use Rattle.ca_machine.specs.Periods as machine
 use Rattle.ca_machine.specs.View.{AnswersBy, outside}
 use Rattle.ca_machine.proofs.DevicesGive.{passes_unread, writing_gives_none}
@@ -172,33 +174,35 @@ after_period_is m true st = refl
 after_period_is m false st = refl
 
 -- neither the playheads nor the payload of a period depend on the gains
-heads_alike : (before st : State) (e : Endpoint) (whole : Bool) (heads : List Playhead) →
-    heads_by (mixing_of before e) whole heads ≡ heads_by (mixing_of st e) whole heads
-heads_alike before st e true heads = refl
-heads_alike before st e false heads = refl
-
-payload_alike : (before st : State) (e : Endpoint) (whole : Bool) →
-    period_payload (mixing_of before e).frames whole ≡ period_payload (mixing_of st e).frames whole
-payload_alike before st e true = refl
-payload_alike before st e false = refl
+-- mixings of one endpoint and as many frames move playheads alike
+heads_alike : (m n : Mixing) → m.endpoint ≡ n.endpoint → m.frames ≡ n.frames → (whole : Bool) (heads : List Playhead) →
+    heads_by m whole heads ≡ heads_by n whole heads
+heads_alike m n endpoint frames true heads =
+    ap₂ (λ number k. map (λ (e : Playhead). if e.number == number then record e { next = e.next + k } else e) heads)
+    endpoint frames
+heads_alike m n endpoint frames false heads = refl
 
 module _ {D E : Type 0} (faults : D → ℕ) (told : D → Option (List DeviceLog)) (moves : E → List StoreStep → E → Type 0)
     (state : E → EndState) (b new : Board D E) (order : InOrder state b) (number at : ℕ) (due : FindsDue number b at)
     (whole : Bool)
-    (plays : Plays moves due.active.endpoint.no.0 (period_frames due.active.endpoint)
+    (plays : Plays moves due.active.endpoint.no.0 (period_frames due.active.endpoint b.entries.items)
     (end_gains due.active.endpoint.format.channels) whole b.entries.items new.entries.items (faults b.devices)
     (told b.devices) (faults new.devices) (told new.devices))
   where
     abbrev its_endpoint : Endpoint
     its_endpoint = due.active.endpoint
 
+    -- the frames of its period
+    abbrev pub its_frames : ℕ
+    its_frames = period_frames its_endpoint b.entries.items
+
     -- a mixing of the endpoint's period, whatever its gains
     abbrev pub any_mixing : Mixing
-    any_mixing = mixing_of empty_state its_endpoint
+    any_mixing = record (mixing_of empty_state its_endpoint) { frames = its_frames }
 
     -- the frames that its device got
     abbrev pub heard : List Frame
-    heard = frames_from (period_frames its_endpoint) (length (end_gains its_endpoint.format.channels)) plays.bytes
+    heard = frames_from its_frames (length (end_gains its_endpoint.format.channels)) plays.bytes
 
     abbrev pub stage_by : (ℕ → BufferData) → Stage
     stage_by datas = stage_with datas b.seats.items b.entries.items
@@ -213,11 +217,11 @@ module _ {D E : Type 0} (faults : D → ℕ) (told : D → Option (List DeviceLo
       abbrev its_mixing : Mixing
       its_mixing = mixing_of (state_of datas tally b) its_endpoint
 
-      mixes : MixesThese its_mixing its_endpoint.no.0 (period_frames its_endpoint)
+      mixes : MixesThese its_mixing its_endpoint.no.0 its_frames
           (end_gains its_endpoint.format.channels) b.entries.items
       mixes = record {
         endpoint = refl;
-        lasts = refl;
+        lasts = frames_alike its_endpoint datas b.entries.items;
         channels = sym (ends_length its_endpoint.format.channels due.seats.format.few_channels);
         gains = λ k d lt channel below.
             gain_is state b order fresh datas tally k d lt channel
@@ -232,27 +236,41 @@ module _ {D E : Type 0} (faults : D → ℕ) (told : D → Option (List DeviceLo
       abbrev datas_after : ℕ → BufferData
       datas_after = after_steps plays.steps b.entries.items datas
 
+      -- what was written is what is picked of the frames that the machine's period has
+      picked_bytes : plays.bytes
+          ≡ sound_bytes its_mixing
+          (map (picks_on its_endpoint.no.0 its_mixing.frames) (streams_of datas b.entries.items))
+      picked_bytes =
+          plays.mixed datas its_mixing agree mixes
+          ∙ ap (λ n. sound_bytes its_mixing (map (picks_on its_endpoint.no.0 n) (streams_of datas b.entries.items)))
+          (sym (frames_alike its_endpoint datas b.entries.items))
+
       bytes_are : plays.bytes ≡ bytes_due its_mixing (stage_by datas)
       bytes_are =
-          plays.mixed datas its_mixing agree mixes ∙ sym (mixed_at_sound its_mixing (stage_by datas) (rises datas))
+          picked_bytes ∙ sym (mixed_at_sound its_mixing (stage_by datas) (rises datas))
 
       -- what was written is the frames of the mix
       heard_is : heard ≡ mixed its_mixing (map (picked_on its_mixing) (streams_of datas b.entries.items))
       heard_is =
-          ap₂ (λ n bytes. frames_from (period_frames its_endpoint) n bytes)
+          ap₂ (λ n bytes. frames_from its_frames n bytes)
           (ends_length its_endpoint.format.channels due.seats.format.few_channels)
-          (plays.mixed datas its_mixing agree mixes)
+          picked_bytes
+          ∙ ap (λ n. frames_from n its_mixing.channels
+          (sound_bytes its_mixing (map (picked_on its_mixing) (streams_of datas b.entries.items))))
+          (sym (frames_alike its_endpoint datas b.entries.items))
           ∙ mixed_frames its_mixing (map (picked_on its_mixing) (streams_of datas b.entries.items))
 
       streams_are : streams_of datas_after new.entries.items
           ≡ map (its_map its_mixing (mixed its_mixing (map (picked_on its_mixing) (streams_of datas b.entries.items)))
           whole) (streams_of datas b.entries.items)
       streams_are =
-          sym (streams_went moves (plays_on its_endpoint.no.0 (period_frames its_endpoint) heard whole) plays.steps
+          sym (streams_went moves (plays_on its_endpoint.no.0 its_frames heard whole) plays.steps
           datas
           datas_after b.entries.items new.entries.items plays.went agree
           (are_after plays.steps b.entries.items datas order.order))
-          ∙ map_alike (plays_on its_endpoint.no.0 (period_frames its_endpoint) heard whole)
+          ∙ ap (λ n. map (plays_on its_endpoint.no.0 n heard whole) (streams_of datas b.entries.items))
+          (sym (frames_alike its_endpoint datas b.entries.items))
+          ∙ map_alike (plays_on its_endpoint.no.0 its_mixing.frames heard whole)
           (its_map its_mixing heard whole)
           (streams_of datas b.entries.items) (all_of _ (plays_alike its_mixing heard whole)
           (streams_of datas b.entries.items))
@@ -282,7 +300,8 @@ module _ {D E : Type 0} (faults : D → ℕ) (told : D → Option (List DeviceLo
           stage_is =
               ap₂ (λ hs ss. record { playheads = hs; streams = ss })
               (heads
-              ∙ heads_alike empty_state (state_of datas tally b) its_endpoint whole (map playhead_of b.seats.items))
+              ∙ heads_alike any_mixing mixing refl (sym (frames_alike its_endpoint datas b.entries.items)) whole
+              (map playhead_of b.seats.items))
               (streams_are fresh datas tally agree)
               ∙ sym (after_period_is mixing whole (stage_by datas))
               ∙ sym (period_by mixing (stage_by datas) (rises datas) whole)
@@ -314,7 +333,7 @@ module _ {D E : Type 0} (faults : D → ℕ) (told : D → Option (List DeviceLo
               (answers_write counts whole (length plays.bytes) plays.offers.taken))
               refl
               (payload_is
-              ∙ payload_alike empty_state st its_endpoint whole
+              ∙ ap (λ n. period_payload n whole) (sym (frames_alike its_endpoint datas b.entries.items))
               ∙ ap (period_payload mixing.frames) (sym is_w))
               (state_is ∙ ap (λ w. machine.after_period its_endpoint.no.0 w
               (plan.moved (sub_steps mixing w (stage_by datas)) st)) (sym is_w))
@@ -332,10 +351,10 @@ module _ {D E : Type 0} (faults : D → ℕ) (told : D → Option (List DeviceLo
         period_does = record {
           steps = plays.steps;
           made = λ client.
-              all_made moves (plays_on its_endpoint.no.0 (period_frames its_endpoint) heard whole) plays.steps None
+              all_made moves (plays_on its_endpoint.no.0 its_frames heard whole) plays.steps None
               b.entries.items new.entries.items plays.went client (plays.none client);
           packs = λ client.
-              all_packed moves (plays_on its_endpoint.no.0 (period_frames its_endpoint) heard whole) plays.steps
+              all_packed moves (plays_on its_endpoint.no.0 its_frames heard whole) plays.steps
               b.entries.items new.entries.items plays.went client (plays.none client);
           does = λ datas tally agree knows. record {
             tally = tally_then datas tally agree;

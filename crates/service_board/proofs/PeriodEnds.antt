@@ -1,5 +1,5 @@
 -- The board after a period, whose device took all or failed.
-use Rattle.std.proofs.Common.{◌≡◌, ℕ, ◌+◌, ◌*◌, ◌≤◌, List, [], ◌∷◌, ◌++◌, length, map, Bool, true, false, Option}
+use Rattle.std.proofs.Common.{◌≡◌, ℕ, ◌+◌, ◌≤◌, List, [], ◌∷◌, ◌++◌, length, map, Bool, true, false, Option}
 use Rattle.std.proofs.Common.{None}
 use Rattle.std.proofs.Common.{refl, sym, ap, ap₂, ◌∙◌, subst, arith, get_or, slice_set}
 use Rattle.std.specs.Int.{w32, to_le_bytes}
@@ -15,7 +15,7 @@ use Rattle.ca_base.specs.declared.values.TheConstants.{STATE_NOTPRESENT}
 use Rattle.wave_format.specs.Format.{IsValid, frames_of_time}
 use Rattle.buffer_ring.specs.declared.step.EndState.{EndState}
 use Rattle.buffer_ring.specs.declared.step.StoreStep.{StoreStep}
-use Rattle.ca_stage.specs.Moves.{finished, playhead_after}
+use Rattle.ca_stage.specs.Moves.{Mixing, finished, playhead_after}
 use Rattle.ca_stage.specs.Stage.{BufferData}
 use Rattle.ca_stage.specs.Tally.{Tally}
 use Rattle.ca_stage.specs.Order.{AreDistinct, RisesFrom}
@@ -27,18 +27,19 @@ use Rattle.ca_machine.specs.State.{empty_state}
 use Rattle.device_registry.specs.Endpoints.{EndpointList, with_state}
 use Rattle.device_registry.specs.Changes.{with_changed}
 use Rattle.ca_machine.specs.declared.state.Client.{Client}
-use Rattle.ca_machine.specs.Periods.{mixing_of, period_frames, period_plan, with_events, with_failed}
+use Rattle.ca_machine.specs.Periods.{mixing_of, period_plan, shared_frames, with_events, with_failed}
 use Rattle.step_notices.specs.Notes.{Notes}
 use Rattle.period_engine.specs.declared.entry.StreamEntry.{StreamEntry}
 use Rattle.period_engine.specs.declared.block.Block.{Block}
 use Rattle.period_engine.specs.Entries.{IsRested}
-use Rattle.period_engine.specs.Sounds.{HasFeedRoom, IsSameSize}
+use Rattle.period_engine.specs.Sounds.{IsSameSize}
+use Rattle.stream_entries.specs.Holding.{period_frames}
 use Rattle.service_book.specs.BookState.{book_state}
 use Rattle.service_board.specs.Board.{playhead_of, stage_with, state_of}
 use Rattle.service_board.specs.Does.{AnyData, Does}
 use Rattle.service_board.specs.Due.{FindsDue, HasFlow}
 use Rattle.stream_entries.specs.Events.{with_event}
-use Rattle.service_board.specs.InOrder.{InOrder, Seats}
+use Rattle.service_board.specs.InOrder.{InOrder, IsScratch, Seats}
 use Rattle.service_board.specs.Plays.{Plays}
 use Rattle.service_board.specs.declared.board.Board.{Board}
 use Rattle.service_board.specs.declared.board.Seat.{Seat}
@@ -46,7 +47,8 @@ use Rattle.service_board.proofs.ChangedEndpoints.{book_changed, zip_changed}
 use Rattle.service_board.proofs.EventsSet.{clients_are, clients_then, events_alike, events_order}
 use Rattle.service_board.proofs.PeriodDoes.{get_mapped, period_does, seat_numbers}
 use Rattle.service_board.proofs.PeriodNeeds.{channels_read, end_gains}
-use Rattle.service_board.proofs.PeriodNeeds.{frames_read, same_room, seat_read}
+use Rattle.service_board.proofs.PeriodNeeds.{frames_read, same_scratch, seat_read}
+use Rattle.service_board.proofs.AlikeEntries.{scratch_of}
 use Rattle.service_board.proofs.PeriodOrder.{keeps_place, period_order, zip_set_seat}
 
 module _ {D E : Type 0} (faults : D → ℕ) (told : D → Option (List DeviceLog)) (moves : E → List StoreStep → E → Type 0)
@@ -55,19 +57,23 @@ module _ {D E : Type 0} (faults : D → ℕ) (told : D → Option (List DeviceLo
     abbrev here : Endpoint
     here = due.active.endpoint
 
+    -- a mixing of the endpoint's period
+    abbrev any_here : Mixing
+    any_here = record (mixing_of empty_state here) { frames = period_frames here b.entries.items }
+
     -- what the period was of, read off the board
     pub record Read (xs ws : List (StreamEntry E)) (e : Endpoint) (frames : ℕ) (s : Seat) (block : Block) : Type 0 where
       pub old : xs ≡ b.entries.items
       pub size : length ws ≡ length xs
       pub endpoint : e ≡ get_or b.book.registry.list at e
-      pub frames_are : frames ≡ period_frames e
+      pub frames_are : frames ≡ period_frames e b.entries.items
       pub seat : s ≡ get_or b.seats.items at s
       pub block_is : IsSameSize s.block block
 
     module _ (xs ws : List (StreamEntry E)) (e : Endpoint) (frames : ℕ) (s : Seat) (block : Block)
         (read : Read xs ws e frames s block)
       where
-        pub frames_here : frames ≡ period_frames here
+        pub frames_here : frames ≡ period_frames here b.entries.items
         frames_here = frames_read state b order number at due e read.endpoint frames read.frames_are
 
         pub channels_here : e.format.channels ≡ here.format.channels
@@ -79,20 +85,27 @@ module _ {D E : Type 0} (faults : D → ℕ) (told : D → Option (List DeviceLo
         pub seat_is : s ≡ due.seat
         seat_is = seat_read state b order number at due s read.seat
 
+        -- the scratch is as large as before
+        pub sizes_stay : (next : ℕ) →
+            map scratch_of (slice_set b.seats.items at (record { endpoint = s.endpoint; next = next; block = block }))
+            ≡ map scratch_of b.seats.items
+        sizes_stay next =
+            map-set_same scratch_of b.seats.items at (record { endpoint = s.endpoint; next = next; block = block }) s
+            (ap (λ (n : ℕ). (s.endpoint.0, n)) read.block_is.frames ∙ ap scratch_of read.seat)
+
         pub seat_fits : (x : Endpoint) (next : ℕ) → x.no ≡ here.no → x.format ≡ here.format → next ≤ MAX_COUNT →
             Seats (record { endpoint = s.endpoint; next = next; block = block }) x
         seat_fits x next endpoint format le = record {
           number = ap (λ (t : Seat). t.endpoint.0) seat_is ∙ due.seats.number ∙ ap (λ n. n.0) (sym endpoint);
           next = le;
           block =
-              subst (λ f. frames_of_time f.rate SHARED_PERIOD * f.channels ≤ block.samples) (sym format)
-              (subst (λ k. period_frames here * here.format.channels ≤ k)
-              (sym (read.block_is.samples ∙ ap (λ (t : Seat). t.block.samples) seat_is)) due.seats.block);
-          feed =
-              subst (λ f. HasFeedRoom f.channels (frames_of_time f.rate SHARED_PERIOD) block) (sym format)
-              (same_room here.format.channels (period_frames here) s.block block read.block_is
-              (subst (λ (t : Seat). HasFeedRoom here.format.channels (period_frames here) t.block) (sym seat_is)
-              due.seats.feed));
+              subst (λ f. IsScratch f.channels block) (sym format)
+              (same_scratch here.format.channels s.block block read.block_is
+              (subst (λ (t : Seat). IsScratch here.format.channels t.block) (sym seat_is) due.seats.block));
+          fits =
+              subst (λ f. frames_of_time f.rate SHARED_PERIOD ≤ block.frames) (sym format)
+              (subst (λ k. shared_frames here ≤ k)
+              (sym (read.block_is.frames ∙ ap (λ (t : Seat). t.block.frames) seat_is)) due.seats.fits);
           format = subst IsValid (sym format) due.seats.format;
         }
 
@@ -103,16 +116,19 @@ module _ {D E : Type 0} (faults : D → ℕ) (told : D → Option (List DeviceLo
         (faults devices) (told devices))
         (rested : All (IsRested state) ws)
       where
-        plays_here : Plays moves here.no.0 (period_frames here) (end_gains here.format.channels) whole
+        plays_here : Plays moves here.no.0 (period_frames here b.entries.items) (end_gains here.format.channels) whole
             b.entries.items
             (with_items b.entries ws).items (faults b.devices) (told b.devices) (faults devices) (told devices)
         plays_here =
-            subst (λ ys. Plays moves here.no.0 (period_frames here) (end_gains here.format.channels) whole
+            subst (λ ys. Plays moves here.no.0 (period_frames here b.entries.items) (end_gains here.format.channels)
+            whole
             b.entries.items ys (faults b.devices) (told b.devices) (faults devices) (told devices))
             (sym (entries_are xs ws e frames s block read))
-            (subst (λ zs. Plays moves here.no.0 (period_frames here) (end_gains here.format.channels) whole zs ws
+            (subst (λ zs. Plays moves here.no.0 (period_frames here b.entries.items) (end_gains here.format.channels)
+            whole zs ws
             (faults b.devices) (told b.devices) (faults devices) (told devices)) read.old
-            (subst (λ n. Plays moves here.no.0 (period_frames here) (end_gains n) whole xs ws (faults b.devices)
+            (subst (λ n. Plays moves here.no.0 (period_frames here b.entries.items) (end_gains n) whole xs ws
+            (faults b.devices)
             (told b.devices) (faults devices) (told devices)) (channels_here xs ws e frames s block read)
             (subst (λ n. Plays moves here.no.0 n (end_gains e.format.channels) whole xs ws (faults b.devices)
             (told b.devices)
@@ -161,13 +177,14 @@ module _ {D E : Type 0} (faults : D → ℕ) (told : D → Option (List DeviceLo
             (sym (entries_are xs ws e frames s block read))
             ∙ events_alike here.no.0 datas whole_board.entries.items b.book.clients.items)
 
-        abbrev plays_whole : Plays moves here.no.0 (period_frames here) (end_gains here.format.channels) true
+        abbrev plays_whole : Plays moves here.no.0 (period_frames here b.entries.items) (end_gains here.format.channels)
+            true
             b.entries.items whole_board.entries.items (faults b.devices) (told b.devices) (faults devices)
             (told devices)
         plays_whole = plays_here devices xs ws e frames s block true read plays rested
 
         whole_heads : map playhead_of whole_board.seats.items
-            ≡ map (playhead_after (finished (mixing_of empty_state here) true)) (map playhead_of b.seats.items)
+            ≡ map (playhead_after (finished any_here true)) (map playhead_of b.seats.items)
         whole_heads =
             let same = seat_is xs ws e frames s block read in
             map-set playhead_of b.seats.items at
@@ -175,7 +192,7 @@ module _ {D E : Type 0} (faults : D → ℕ) (told : D → Option (List DeviceLo
             ∙ ap (slice_set (map playhead_of b.seats.items) at)
             (ap₂ (λ (t : Seat) n. record { number = t.endpoint.0; next = t.next + n }) same
             (frames_here xs ws e frames s block read))
-            ∙ sym (head_in_place (mixing_of empty_state here) at (map playhead_of b.seats.items) (playhead_of due.seat)
+            ∙ sym (head_in_place any_here at (map playhead_of b.seats.items) (playhead_of due.seat)
             (distinct devices xs ws e frames s block true read plays rested)
             (get_mapped playhead_of b.seats.items at due.seat due.seat_here) due.seats.number)
 
@@ -195,6 +212,7 @@ module _ {D E : Type 0} (faults : D → ℕ) (told : D → Option (List DeviceLo
             ap (λ (t : Seat). t.next) (seat_is xs ws e frames s block read) in
             events_order state b unsignaled number ws false cs events refl
             (period_order faults told moves state b unsignaled order number at due true plays_whole whole_heads
+            (sizes_stay xs ws e frames s block read (s.next + frames))
             (rested_here devices xs ws e frames s block true read plays rested) refl refl refl
             (λ n e found. record { endpoint = e; found = found; flow = refl; format = refl })
             (zip_set_seat b.seats.items b.book.registry.list at
@@ -229,7 +247,8 @@ module _ {D E : Type 0} (faults : D → ℕ) (told : D → Option (List DeviceLo
           failed = notes;
         }
 
-        abbrev plays_failed : Plays moves here.no.0 (period_frames here) (end_gains here.format.channels) false
+        abbrev plays_failed : Plays moves here.no.0 (period_frames here b.entries.items)
+            (end_gains here.format.channels) false
             b.entries.items failed_board.entries.items (faults b.devices) (told b.devices) (faults devices)
             (told devices)
         plays_failed = plays_here devices xs ws e frames s block false read plays rested
@@ -271,6 +290,7 @@ module _ {D E : Type 0} (faults : D → ℕ) (told : D → Option (List DeviceLo
         failed_order : InOrder state failed_board
         failed_order =
             period_order faults told moves state b failed_board order number at due false plays_failed failed_heads
+            (sizes_stay xs ws e frames s block read s.next)
             (rested_here devices xs ws e frames s block false read plays rested) refl refl refl
             (keeps_place number (with_state STATE_NOTPRESENT) (λ e. refl) (λ e. refl) (λ e. refl) b.book.registry.list
             failed_board.book.registry.list (ap (λ (r : EndpointList). r.list) is))
@@ -281,7 +301,7 @@ module _ {D E : Type 0} (faults : D → ℕ) (told : D → Option (List DeviceLo
               number = fits.number;
               next = fits.next;
               block = fits.block;
-              feed = fits.feed;
+              fits = fits.fits;
               format = fits.format;
             })
             (zip_set_seat b.seats.items b.book.registry.list at

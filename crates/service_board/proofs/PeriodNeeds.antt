@@ -1,10 +1,12 @@
 -- What a period needs of a board in order: of its entries, of the endpoint's gains, and of the seat.
-use Rattle.std.proofs.Common.{◌≡◌, ℕ, ◌+◌, ◌*◌, ◌<◌, ◌≤◌, List, [], ◌∷◌, length, take, true, None, sym, ap, ◌∙◌}
-use Rattle.std.proofs.Common.{subst, arith, get_or}
+use Rattle.std.proofs.Common.{◌≡◌, ℕ, ◌+◌, ◌*◌, ◌<◌, ◌≤◌, List, [], ◌∷◌, length, take, true, None, sym, ap, ap₂, ◌∙◌}
+use Rattle.std.proofs.Common.{◌&&◌}
+use Rattle.std.proofs.Common.{subst, arith, get_or, eq-eqb, mul-le-mul_right}
 use Rattle.std.specs.List.{All}
 use Rattle.std.specs.Option.{option_map_or}
 use Rattle.std.proofs.lemmas.List.{length-take}
 use Rattle.std.proofs.lemmas.List.Elements.{All-from_recursion, All-take}
+use Rattle.std.proofs.lemmas.Bool.{and_parts}
 use Rattle.std.proofs.lemmas.Bool.Decides.{nat_tests}
 use Rattle.std.proofs.lemmas.Option.{get_or_from_slice_get, slice_get_within}
 use Rattle.ca_base.specs.declared.ids.Gate.TheVariants as gate
@@ -12,23 +14,25 @@ use Rattle.ca_base.specs.declared.limits.TheConstants.{MAX_COUNT, SHARED_PERIOD}
 use Rattle.ca_base.specs.declared.values.TheConstants.{STATE_NOTPRESENT}
 use Rattle.ca_base.specs.Rows.{first}
 use Rattle.wave_format.specs.Format.{frames_of_time, is_listed}
-use Rattle.ca_stage.specs.Stage.{is_capture, is_loopback}
+use Rattle.ca_stage.specs.Stage.{is_capture, is_loopback, is_open_gate}
 use Rattle.volume_stack.specs.Scaling.{unit_gain}
 use Rattle.buffer_ring.specs.declared.step.EndState.{EndState}
 use Rattle.device_registry.specs.declared.endpoint.Endpoint.{Endpoint}
 use Rattle.device_registry.specs.Endpoints.{endpoint_at}
 use Rattle.device_registry.specs.Rows.{state_rows}
 use Rattle.service_board.proofs.Playing.{plays_here}
-use Rattle.ca_machine.specs.Periods.{period_frames}
+use Rattle.ca_machine.specs.Periods.{shared_frames}
 use Rattle.period_engine.specs.declared.entry.StreamEntry.{StreamEntry}
 use Rattle.period_engine.specs.Entries.{HasRoom, IsFeedable, is_heard, is_recorded}
 use Rattle.period_engine.specs.Sounds.{AreEnds, BlockState, HasFeedRoom, IsSameSize}
+use Rattle.stream_entries.specs.Holding.{is_open_entry, period_frames}
 use Rattle.service_board.specs.Due.{FindsDue}
-use Rattle.service_board.specs.InOrder.{Belongs, InOrder, next_at}
+use Rattle.service_board.specs.InOrder.{Belongs, InOrder, IsScratch, next_at}
 use Rattle.service_board.specs.Plays.{IsPlayable}
 use Rattle.service_board.specs.declared.board.Board.{Board}
 use Rattle.service_board.specs.declared.board.Seat.{Seat}
-use Rattle.service_board.proofs.WornEntries.{heard_behind, is_here, on_endpoint}
+use Rattle.service_board.proofs.PeriodLengths.{entry_period, period_holds}
+use Rattle.service_board.proofs.WornEntries.{heard_behind, is_here, on_endpoint, open_by}
 
 -- the gains that change nothing, of `channels` channels
 abbrev pub units : List ℕ
@@ -65,6 +69,12 @@ same_room channels frames a b same h = record {
   bytes = subst (λ n. frames * channels * 2 ≤ n) (sym same.bytes) h.bytes;
 }
 
+pub same_scratch : (channels : ℕ) (a b : BlockState) → IsSameSize a b → IsScratch channels a → IsScratch channels b
+same_scratch channels a b same h = record {
+  samples = same.samples ∙ h.samples ∙ ap (λ n. n * channels) (sym same.frames);
+  bytes = same.bytes ∙ h.bytes ∙ ap (λ n. 2 * (n * channels)) (sym same.frames);
+}
+
 pub same_size : (a b c : BlockState) → IsSameSize a b → IsSameSize b c → IsSameSize a c
 same_size a b c h k = record {
   samples = k.samples ∙ h.samples;
@@ -84,6 +94,10 @@ module _ {D E : Type 0} (state : E → EndState) (b : Board D E) (order : InOrde
   abbrev pub its_endpoint : Endpoint
   its_endpoint = due.active.endpoint
 
+  -- the frames of its period
+  abbrev pub its_frames : ℕ
+  its_frames = period_frames its_endpoint b.entries.items
+
   -- the endpoint and the seat, as they are read at the place
   pub endpoint_read : (e : Endpoint) → e ≡ get_or b.book.registry.list at e → e ≡ its_endpoint
   endpoint_read e read =
@@ -98,10 +112,35 @@ module _ {D E : Type 0} (state : E → EndState) (b : Board D E) (order : InOrde
   pub seat_within : at < length b.seats.items
   seat_within = slice_get_within b.seats.items at due.seat due.seat_here
 
+  -- the period fits in the scratch, to be played and to be offered as a packet
+  its_block : its_frames * its_endpoint.format.channels ≤ due.seat.block.samples
+  its_block =
+      subst (λ n. its_frames * its_endpoint.format.channels ≤ n) (sym due.seats.block.samples)
+      (mul-le-mul_right its_endpoint.format.channels due.fits)
+
+  its_feed : HasFeedRoom its_endpoint.format.channels its_frames due.seat.block
+  its_feed = record {
+    some = due.seats.format.some_channel;
+    few = due.seats.format.few_channels;
+    words = due.fits;
+    bytes =
+        let most = mul-le-mul_right its_endpoint.format.channels due.fits in
+        let bytes = due.seats.block.bytes in
+        omega arith;
+  }
+
+  -- and has a frame
+  pub some_frames : 1 ≤ its_frames
+  some_frames =
+      period_holds (λ n. 1 ≤ n) its_endpoint b.entries.items
+      (frames_of_listed its_endpoint.format.rate due.seats.format.listed_rate)
+      (λ k d lt opens.
+      ((order.belong k d lt).opens (open_by (get_or b.entries.items k d).gate (and_parts _ _ opens).1)).some)
+
   its_next : next_at number b.seats.items ≡ due.seat.next
   its_next = ap (λ o. option_map_or (λ (s : Seat). s.next) o 0) due.seat_found
 
-  entry_room : (e : StreamEntry E) → Belongs b.book b.seats.items e → HasRoom number (period_frames its_endpoint) e
+  entry_room : (e : StreamEntry E) → Belongs b.book b.seats.items e → HasRoom number its_frames e
   entry_room e belongs played =
       let plays = plays_here number e played in
       let next : next_at e.endpoint.0 b.seats.items ≡ due.seat.next =
@@ -119,41 +158,60 @@ module _ {D E : Type 0} (state : E → EndState) (b : Board D E) (order : InOrde
       ∙ ap (λ (x : Endpoint). x.format.channels)
       (on_endpoint b.book b.seats.items number its_endpoint due.active.found e here on)
 
-  entry_lasts : (e : StreamEntry E) → Belongs b.book b.seats.items e → e.endpoint.0 ≡ number → e.gate ≡ gate.Open →
-      e.period ≡ period_frames its_endpoint
-  entry_lasts e belongs here unclosed =
-      let on = belongs.opens unclosed in
-      on.lasts ∙ ap period_frames (on_endpoint b.book b.seats.items number its_endpoint due.active.found e here on)
+  its_number : its_endpoint.no.0 ≡ number
+  its_number = due.active.number_is
 
-  entry_hears : (e : StreamEntry E) → Belongs b.book b.seats.items e → is_heard number e ≡ true →
-      IsFeedable its_endpoint.format.channels (period_frames its_endpoint) e
-  entry_hears e belongs hears =
+  -- an entry of the endpoint that is open, as a test
+  opens_there : (e : StreamEntry E) → e.endpoint.0 ≡ number → e.gate ≡ gate.Open →
+      is_open_entry its_endpoint.no.0 e ≡ true
+  opens_there e here unclosed =
+      ap₂ (λ v w. v && w) (eq-eqb e.endpoint.0 its_endpoint.no.0 (here ∙ sym its_number)) (ap is_open_gate unclosed)
+
+  entry_lasts : (k : ℕ) (d : StreamEntry E) → k < length b.entries.items →
+      (get_or b.entries.items k d).endpoint.0 ≡ number → (get_or b.entries.items k d).gate ≡ gate.Open →
+      (get_or b.entries.items k d).period ≡ its_frames
+  entry_lasts k d lt here unclosed =
+      let e : StreamEntry E = get_or b.entries.items k d in
+      let on = (order.belong k d lt).opens unclosed in
+      entry_period its_endpoint b.entries.items order.alike k d lt (opens_there e here unclosed)
+      (λ shared.
+      on.lasts shared
+      ∙ ap shared_frames (on_endpoint b.book b.seats.items number its_endpoint due.active.found e here on))
+
+  entry_hears : (k : ℕ) (d : StreamEntry E) → k < length b.entries.items →
+      is_heard number (get_or b.entries.items k d) ≡ true →
+      IsFeedable its_endpoint.format.channels its_frames (get_or b.entries.items k d)
+  entry_hears k d lt hears =
+      let e : StreamEntry E = get_or b.entries.items k d in
+      let belongs = order.belong k d lt in
       let at = is_here number is_loopback e hears in
       let behind = heard_behind b.book b.seats.items number its_endpoint due.active.found e belongs hears in
       let next = its_next in
       let room = due.room in
       record {
         channels_are = entry_fits e belongs at.here at.unclosed;
-        period = entry_lasts e belongs at.here at.unclosed;
+        period = entry_lasts k d lt at.here at.unclosed;
         ever = omega arith;
       }
 
-  entry_records : (e : StreamEntry E) → Belongs b.book b.seats.items e →
-      (is_recorded number e ≡ true → e.ever + period_frames its_endpoint ≤ MAX_COUNT) → is_recorded number e ≡ true →
-      IsFeedable its_endpoint.format.channels (period_frames its_endpoint) e
-  entry_records e belongs counts records =
+  entry_records : (k : ℕ) (d : StreamEntry E) → k < length b.entries.items →
+      is_recorded number (get_or b.entries.items k d) ≡ true →
+      IsFeedable its_endpoint.format.channels its_frames (get_or b.entries.items k d)
+  entry_records k d lt records =
+      let e : StreamEntry E = get_or b.entries.items k d in
+      let belongs = order.belong k d lt in
       let at = is_here number is_capture e records in
       record {
         channels_are = entry_fits e belongs at.here at.unclosed;
-        period = entry_lasts e belongs at.here at.unclosed;
-        ever = counts records;
+        period = entry_lasts k d lt at.here at.unclosed;
+        ever = due.ever k d lt records;
       }
 
   -- the endpoint and the frames of its period, as they are read
   module _ (e : Endpoint) (read : e ≡ get_or b.book.registry.list at e) (frames : ℕ)
-      (frames_are : frames ≡ period_frames e) where
-    pub frames_read : frames ≡ period_frames its_endpoint
-    frames_read = frames_are ∙ ap period_frames (endpoint_read e read)
+      (frames_are : frames ≡ period_frames e b.entries.items) where
+    pub frames_read : frames ≡ its_frames
+    frames_read = frames_are ∙ ap (λ (x : Endpoint). period_frames x b.entries.items) (endpoint_read e read)
 
     pub channels_read : e.format.channels ≡ its_endpoint.format.channels
     channels_read = ap (λ (x : Endpoint). x.format.channels) (endpoint_read e read)
@@ -174,15 +232,15 @@ module _ {D E : Type 0} (state : E → EndState) (b : Board D E) (order : InOrde
         b.entries.items
     entries_feed k d lt hears =
         subst (λ n. IsFeedable (length (end_gains e.format.channels)) n (get_or b.entries.items k d)) (sym frames_read)
-        (subst (λ n. IsFeedable n (period_frames its_endpoint) (get_or b.entries.items k d)) (sym its_length)
-        (entry_hears (get_or b.entries.items k d) (order.belong k d lt) hears))
+        (subst (λ n. IsFeedable n its_frames (get_or b.entries.items k d)) (sym its_length)
+        (entry_hears k d lt hears))
 
     -- and so may those who record it
     pub entries_record : All (λ x. is_recorded number x ≡ true → IsFeedable e.format.channels frames x) b.entries.items
     entries_record k d lt records =
         subst (λ n. IsFeedable e.format.channels n (get_or b.entries.items k d)) (sym frames_read)
-        (subst (λ n. IsFeedable n (period_frames its_endpoint) (get_or b.entries.items k d)) (sym channels_read)
-        (entry_records (get_or b.entries.items k d) (order.belong k d lt) (due.ever k d lt) records))
+        (subst (λ n. IsFeedable n its_frames (get_or b.entries.items k d)) (sym channels_read)
+        (entry_records k d lt records))
 
     pub entries_playable : All (IsPlayable state number frames (length (end_gains e.format.channels))) b.entries.items
     entries_playable k d lt =
@@ -202,7 +260,7 @@ module _ {D E : Type 0} (state : E → EndState) (b : Board D E) (order : InOrde
     block_fits s seat =
         subst (λ (t : Seat). frames * length (end_gains e.format.channels) ≤ t.block.samples) (sym (seat_read s seat))
         (subst (λ n. n * length (end_gains e.format.channels) ≤ due.seat.block.samples) (sym frames_read)
-        (subst (λ n. period_frames its_endpoint * n ≤ due.seat.block.samples) (sym its_length) due.seats.block))
+        (subst (λ n. its_frames * n ≤ due.seat.block.samples) (sym its_length) its_block))
 
     -- a packet of the period fits in the seat's scratch, whatever a period left there
     pub feed_fits : (s : Seat) → s ≡ get_or b.seats.items at s → (block : BlockState) → IsSameSize s.block block →
@@ -211,19 +269,18 @@ module _ {D E : Type 0} (state : E → EndState) (b : Board D E) (order : InOrde
         let at : HasFeedRoom (length (end_gains e.format.channels)) frames s.block =
         subst (λ (t : Seat). HasFeedRoom (length (end_gains e.format.channels)) frames t.block) (sym (seat_read s seat))
         (subst (λ n. HasFeedRoom (length (end_gains e.format.channels)) n due.seat.block) (sym frames_read)
-        (subst (λ n. HasFeedRoom n (period_frames its_endpoint) due.seat.block) (sym its_length) due.seats.feed)) in
+        (subst (λ n. HasFeedRoom n its_frames due.seat.block) (sym its_length) its_feed)) in
         same_room (length (end_gains e.format.channels)) frames s.block block same at
 
     pub record_fits : (s : Seat) → s ≡ get_or b.seats.items at s → HasFeedRoom e.format.channels frames s.block
     record_fits s seat =
         subst (λ (t : Seat). HasFeedRoom e.format.channels frames t.block) (sym (seat_read s seat))
         (subst (λ n. HasFeedRoom e.format.channels n due.seat.block) (sym frames_read)
-        (subst (λ n. HasFeedRoom n (period_frames its_endpoint) due.seat.block) (sym channels_read) due.seats.feed))
+        (subst (λ n. HasFeedRoom n its_frames due.seat.block) (sym channels_read) its_feed))
 
     -- a period has a frame
     pub some_frame : 1 ≤ frames
-    some_frame =
-        subst (λ n. 1 ≤ n) (sym frames_read) (frames_of_listed its_endpoint.format.rate due.seats.format.listed_rate)
+    some_frame = subst (λ n. 1 ≤ n) (sym frames_read) some_frames
 
     pub next_fits : (s : Seat) → s ≡ get_or b.seats.items at s → s.next + frames ≤ MAX_COUNT
     next_fits s seat = omega (arith, ap (λ (t : Seat). t.next) (seat_read s seat), frames_read, due.room)

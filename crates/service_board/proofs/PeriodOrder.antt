@@ -25,21 +25,23 @@ use Rattle.session_manager.specs.Sessions.{session_at}
 use Rattle.ca_machine.specs.declared.state.Client.{Client}
 use Rattle.device_registry.specs.declared.endpoint.Endpoint.{Endpoint}
 use Rattle.device_registry.specs.Endpoints.{changed, is_endpoint}
-use Rattle.ca_machine.specs.Periods.{period_frames}
 use Rattle.period_engine.specs.declared.entry.StreamEntry.{StreamEntry}
 use Rattle.period_engine.specs.Entries.{IsRested}
 use Rattle.service_book.specs.InOrder.{IsBook}
-use Rattle.service_book.specs.Gains.{gains_by}
+use Rattle.service_book.specs.Gains.{gains_if}
 use Rattle.service_book.specs.declared.book.Book.{Book}
 use Rattle.service_book.proofs.Finding.{find_mapped}
 use Rattle.service_board.specs.Board.{playhead_of}
 use Rattle.service_board.specs.Due.{FindsDue}
-use Rattle.service_board.specs.InOrder.{Belongs, InOrder, IsOn, Seats, is_seat, next_at, suits}
+use Rattle.service_board.specs.InOrder.{scratch_at, Belongs, InOrder, IsOn, Seats, is_seat, next_at, suits}
 use Rattle.service_board.specs.Plays.{AllGo, GoesBy, Plays, StaysNear, plays_on}
+use Rattle.reply_payload.specs.declared.packets.TheConstants.{MOST_FRAMES}
+use Rattle.stream_entries.specs.Holding.{period_frames}
 use Rattle.service_board.specs.declared.board.Board.{Board}
 use Rattle.service_board.specs.declared.board.Seat.{Seat}
 use Rattle.service_board.proofs.ByClient.{clients_stay}
 use Rattle.service_board.proofs.ChangedEndpoints.{found_changed}
+use Rattle.service_board.proofs.AlikeEntries.{IsKept, kept_alike, scratch_of, scratch_stays}
 use Rattle.service_board.proofs.DuePeriods.{next_by_heads}
 use Rattle.service_board.proofs.PeriodDoes.{any_mixing, heads_by, heard}
 use Rattle.service_board.proofs.PeriodNeeds.{end_gains}
@@ -155,6 +157,7 @@ module _ {E : Type 0} (moves : E → List StoreStep → E → Type 0) (f : Strea
     (keeps : (n : ℕ) (e : Endpoint) → find (is_endpoint n) book.registry.list ≡ Some e →
     KeepsPlace book.registry.list book'.registry.list n e)
     (next : (n : ℕ) → next_at n seats + (if whole && n == number then frames else 0) ≤ next_at n seats')
+    (scratch : (n : ℕ) → scratch_at n seats' ≡ scratch_at n seats)
   where
     -- what was not beyond the next place of an entry's endpoint isn't after the period
     still_behind : (n m p q : ℕ) → m ≡ n → q ≤ p + (if whole && n == number then frames else 0) → p ≤ next_at n seats →
@@ -173,10 +176,15 @@ module _ {E : Type 0} (moves : E → List StoreStep → E → Type 0) (f : Strea
           endpoint = kept.endpoint;
           there = ap (λ k. find (is_endpoint k) book'.registry.list) same ∙ kept.found;
           fits = goes.same.channels ∙ on.fits ∙ ap (λ format. format.channels) (sym kept.format);
-          lasts =
+          some = subst (λ k. 1 ≤ k) (sym goes.same.period) on.some;
+          longest = subst (λ k. k ≤ MOST_FRAMES) (sym goes.same.period) on.longest;
+          lasts = λ shared.
               goes.same.period
-              ∙ on.lasts
+              ∙ on.lasts (sym goes.same.exclusive ∙ shared)
               ∙ ap (λ format. frames_of_time format.rate SHARED_PERIOD) (sym kept.format);
+          holds =
+              subst (λ k. k ≤ scratch_at b.endpoint.0 seats') (sym goes.same.period)
+              (subst (λ k. a.period ≤ k) (sym (ap (λ n. scratch_at n seats') same ∙ scratch a.endpoint.0)) on.holds);
           suited = ap₂ suits kept.flow goes.same.kind ∙ on.suited;
           behind = still_behind a.endpoint.0 b.endpoint.0 a.position b.position same near.position on.behind;
           hears = λ kind.
@@ -201,9 +209,27 @@ module _ {E : Type 0} (moves : E → List StoreStep → E → Type 0) (f : Strea
           gains = λ fresh.
               goes.same.gains
               ∙ h.gains (sym changed ∙ fresh)
-              ∙ ap₂ (λ (s : SessionNo) (list : List Session). gains_by h.client.levels (session_at s.0 list))
-              (sym goes.same.session) (ap (λ s. s.list) (sym sessions));
+              ∙ ap₂ (λ (s : SessionNo) (list : List Session).
+              gains_if a.exclusive h.client.levels (session_at s.0 list)) (sym goes.same.session)
+              (ap (λ s. s.list) (sym sessions))
+              ∙ ap (λ v. gains_if v h.client.levels (session_at b.session.0 book'.sessions.list))
+              (sym goes.same.exclusive);
         }
+
+    are_kept : (steps : ℕ → List StoreStep) (xs ys : List (StreamEntry E)) → AllGo moves f steps xs ys →
+        AllZip (StaysBehind number frames whole) xs ys → AllZip IsKept xs ys
+    are_kept steps [] [] h near = tt
+    are_kept steps (x ∷ xs) (y ∷ ys) h near = (
+      record {
+        endpoint = ap (λ e. e.0) h.0.same.endpoint;
+        exclusive = h.0.same.exclusive;
+        period = h.0.same.period;
+        opens = near.0.opens;
+      },
+      are_kept steps xs ys h.1 near.1,
+    )
+    are_kept steps [] (y ∷ ys) h near = absurd h
+    are_kept steps (x ∷ xs) [] h near = absurd h
 
     pub all_belong : (steps : ℕ → List StoreStep) (xs ys : List (StreamEntry E)) → AllGo moves f steps xs ys →
         AllZip (StaysBehind number frames whole) xs ys → AllByRecursion (Belongs book seats) xs →
@@ -222,7 +248,7 @@ module _ {D E : Type 0} (moves : E → List StoreStep → E → Type 0) (state :
     (went : AllGo moves f steps b.entries.items new.entries.items)
     (places : AllZip (StaysBehind number frames whole) b.entries.items new.entries.items)
     (next : (n : ℕ) → next_at n b.seats.items + (if whole && n == number then frames else 0)
-    ≤ next_at n new.seats.items) where
+    ≤ next_at n new.seats.items) (sizes : map scratch_of new.seats.items ≡ map scratch_of b.seats.items) where
   pub order_after : All (IsRested state) new.entries.items → new.book.clients.items ≡ b.book.clients.items →
       new.book.sessions ≡ b.book.sessions → new.book.levels_changed ≡ b.book.levels_changed →
       ((n : ℕ) (e : Endpoint) → find (is_endpoint n) b.book.registry.list ≡ Some e →
@@ -237,8 +263,14 @@ module _ {D E : Type 0} (moves : E → List StoreStep → E → Type 0) (state :
     belong =
         All-from_recursion (Belongs new.book new.seats.items) new.entries.items
         (all_belong moves f number frames whole b.book new.book b.seats.items new.seats.items clients sessions changed
-        keeps next steps b.entries.items new.entries.items went places
+        keeps next (scratch_stays b.seats.items new.seats.items sizes) steps b.entries.items new.entries.items went
+        places
         (recursion_from_All (Belongs b.book b.seats.items) b.entries.items order.belong));
+    alike =
+        kept_alike b.entries.items new.entries.items
+        (are_kept moves f number frames whole b.book new.book b.seats.items new.seats.items clients sessions changed
+        keeps next (scratch_stays b.seats.items new.seats.items sizes) steps b.entries.items new.entries.items went
+        places) order.alike;
     seats = seats;
     book = book;
     room = room;
@@ -250,18 +282,19 @@ module _ {D E : Type 0} (moves : E → List StoreStep → E → Type 0) (state :
 module _ {D E : Type 0} (faults : D → ℕ) (told : D → Option (List DeviceLog)) (moves : E → List StoreStep → E → Type 0)
     (state : E → EndState) (b new : Board D E) (order : InOrder state b) (number at : ℕ) (due : FindsDue number b at)
     (whole : Bool)
-    (plays : Plays moves due.active.endpoint.no.0 (period_frames due.active.endpoint)
+    (plays : Plays moves due.active.endpoint.no.0 (period_frames due.active.endpoint b.entries.items)
     (end_gains due.active.endpoint.format.channels) whole b.entries.items new.entries.items (faults b.devices)
     (told b.devices) (faults new.devices) (told new.devices))
     (heads : map playhead_of new.seats.items
     ≡ heads_by (any_mixing faults told moves state b new order number at due whole plays) whole
     (map playhead_of b.seats.items))
+    (sizes : map scratch_of new.seats.items ≡ map scratch_of b.seats.items)
   where
     abbrev number_of : ℕ
     number_of = due.active.endpoint.no.0
 
     abbrev frames_of : ℕ
-    frames_of = period_frames due.active.endpoint
+    frames_of = period_frames due.active.endpoint b.entries.items
 
     abbrev heard_of : List Frame
     heard_of = heard faults told moves state b new order number at due whole plays
@@ -297,7 +330,7 @@ module _ {D E : Type 0} (faults : D → ℕ) (told : D → Option (List DeviceLo
     period_order =
         order_after moves state b new order (plays_on number_of frames_of heard_of whole) plays.steps number_of
         frames_of whole plays.went
-        (all_behind number_of frames_of whole b.entries.items new.entries.items plays.places) next_at_rises
+        (all_behind number_of frames_of whole b.entries.items new.entries.items plays.places) next_at_rises sizes
 
 -- a period of an endpoint that captures brings no endpoint on
 module _ {D E : Type 0} (b new : Board D E) (heads : map playhead_of new.seats.items ≡ map playhead_of b.seats.items)

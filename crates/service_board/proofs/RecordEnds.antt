@@ -22,7 +22,7 @@ use Rattle.ca_stage.specs.Given.{whole_frames}
 use Rattle.ca_stage.specs.Stage.{BufferData, Stage}
 use Rattle.ca_stage.specs.Tally.{Tally}
 use Rattle.ca_machine.specs.declared.state.Client.{Client}
-use Rattle.ca_machine.specs.Periods.{after_recording, period_frames, period_plan, with_events, with_failed}
+use Rattle.ca_machine.specs.Periods.{after_recording, period_plan, with_events, with_failed}
 use Rattle.ca_machine.proofs.RecordedStage.{recorded}
 use Rattle.step_notices.specs.Notes.{Notes}
 use Rattle.period_engine.specs.declared.entry.StreamEntry.{StreamEntry}
@@ -37,12 +37,15 @@ use Rattle.service_board.specs.Does.{AnyData, Does}
 use Rattle.service_board.specs.Due.{FindsDue, HasFlow}
 use Rattle.stream_entries.specs.Events.{with_event}
 use Rattle.service_board.specs.InOrder.{InOrder, Seats}
+use Rattle.stream_entries.specs.Holding.{period_frames}
 use Rattle.service_board.specs.declared.board.Board.{Board}
 use Rattle.service_board.specs.declared.board.Seat.{Seat}
 use Rattle.service_board.proofs.ChangedEndpoints.{book_changed, zip_changed}
 use Rattle.service_board.proofs.EventsSet.{clients_are, clients_then, events_alike, events_order}
 use Rattle.service_board.proofs.PeriodEnds.{Read, channels_here, entries_are, frames_here, seat_fits, seat_is}
-use Rattle.service_board.proofs.PeriodNeeds.{frames_of_listed}
+use Rattle.service_board.proofs.PeriodEnds.{sizes_stay}
+use Rattle.service_board.proofs.AlikeEntries.{scratch_of}
+use Rattle.service_board.proofs.PeriodNeeds.{some_frames}
 use Rattle.service_board.proofs.PeriodOrder.{keeps_place, next_stays, order_after, zip_set_seat}
 use Rattle.service_board.proofs.RecordDoes.{Records, record_does}
 use Rattle.service_board.proofs.Recording.{all_fed, all_lost, idle_records, lost_records, none_recorded, whole_records}
@@ -69,14 +72,16 @@ module _ {D E : Type 0} (faults : D → ℕ) (told : D → Option (List DeviceLo
         Does faults told moves None AnyData b b (λ st. period_plan st number) hr.S_OK (to_le_bytes w32 0 ++ 0 ∷ [])
     idle_does stays none =
         record_does faults told moves state b b order number at due true []
-        (idle_records moves stays here b.entries.items (faults b.devices) (told b.devices)
+        (idle_records moves stays here (period_frames here b.entries.items) b.entries.items (faults b.devices)
+        (told b.devices)
         (ap (λ n. list_any (is_recorded n) b.entries.items) due.active.number_is ∙ none))
         (captures here due.active.here) refl
         (λ datas tally.
         ap (λ n. if n == 0 then state_of datas tally b else with_events here.no.0 (state_of datas tally b))
         (sym (zero_frames here.format.channels due.seats.format.some_channel)))
         (to_le_bytes w32 0 ++ 0 ∷ [])
-        (ap (λ n. to_le_bytes w32 n ++ 0 ∷ []) (sym (none_recorded here due.seats.format.some_channel)))
+        (ap (λ n. to_le_bytes w32 n ++ 0 ∷ [])
+        (sym (none_recorded here (period_frames here b.entries.items) due.seats.format.some_channel)))
 
     module _ (devices : D) (xs ws : List (StreamEntry E)) (e : Endpoint) (frames : ℕ) (s : Seat) (block : Block)
         (read : Read faults told moves state b order number at due xs ws e frames s block)
@@ -85,12 +90,15 @@ module _ {D E : Type 0} (faults : D → ℕ) (told : D → Option (List DeviceLo
         captures_here : (r : Result ℕ Failed) (ys : List (StreamEntry E)) →
             Captures moves number frames e.format.channels r xs ys (faults b.devices) (told b.devices)
             (faults devices) (told devices) →
-            Captures moves here.no.0 (period_frames here) here.format.channels r b.entries.items ys (faults b.devices)
+            Captures moves here.no.0 (period_frames here b.entries.items) here.format.channels r b.entries.items ys
+            (faults b.devices)
             (told b.devices) (faults devices) (told devices)
         captures_here r ys c =
-            subst (λ zs. Captures moves here.no.0 (period_frames here) here.format.channels r zs ys (faults b.devices)
+            subst (λ zs. Captures moves here.no.0 (period_frames here b.entries.items) here.format.channels r zs ys
+            (faults b.devices)
             (told b.devices) (faults devices) (told devices)) read.old
-            (subst (λ n. Captures moves here.no.0 (period_frames here) n r xs ys (faults b.devices) (told b.devices)
+            (subst (λ n. Captures moves here.no.0 (period_frames here b.entries.items) n r xs ys (faults b.devices)
+            (told b.devices)
             (faults devices) (told devices))
             (channels_here faults told moves state b order number at due xs ws e frames s block read)
             (subst (λ n. Captures moves here.no.0 n e.format.channels r xs ys (faults b.devices) (told b.devices)
@@ -119,6 +127,9 @@ module _ {D E : Type 0} (faults : D → ℕ) (told : D → Option (List DeviceLo
             (subst (λ (t : Seat). t.next ≤ MAX_COUNT)
             (sym (seat_is faults told moves state b order number at due xs ws e frames s block read)) due.seats.next)
 
+        sizes_same : map scratch_of (with_item b.seats at seat_then).items ≡ map scratch_of b.seats.items
+        sizes_same = sizes_stay faults told moves state b order number at due xs ws e frames s block read s.next
+
         seats_stay : AllZip Seats (with_item b.seats at seat_then).items b.book.registry.list
         seats_stay =
             zip_set_seat b.seats.items b.book.registry.list at seat_then here same_seat due.active.here order.seats
@@ -126,8 +137,8 @@ module _ {D E : Type 0} (faults : D → ℕ) (told : D → Option (List DeviceLo
         items_are : (with_items b.entries ws).items ≡ ws
         items_are = entries_are faults told moves state b order number at due xs ws e frames s block read
 
-        some_frame_here : 1 ≤ period_frames here
-        some_frame_here = frames_of_listed here.format.rate due.seats.format.listed_rate
+        some_frame_here : 1 ≤ period_frames here b.entries.items
+        some_frame_here = some_frames state b order number at due
 
         -- the device gave what it had
         abbrev unsignaled : Board D E
@@ -147,17 +158,21 @@ module _ {D E : Type 0} (faults : D → ℕ) (told : D → Option (List DeviceLo
             abbrev pub recorded_board : Board D E
             recorded_board = record unsignaled { book = record b.book { clients = clients_then b cs } }
 
-            gives_here : Captures moves here.no.0 (period_frames here) here.format.channels (Ok n) b.entries.items
+            gives_here : Captures moves here.no.0 (period_frames here b.entries.items) here.format.channels (Ok n)
+                b.entries.items
                 recorded_board.entries.items (faults b.devices) (told b.devices) (faults devices) (told devices)
             gives_here =
-                subst (λ ys. Captures moves here.no.0 (period_frames here) here.format.channels (Ok n) b.entries.items
+                subst (λ ys. Captures moves here.no.0 (period_frames here b.entries.items) here.format.channels (Ok n)
+                b.entries.items
                 ys (faults b.devices) (told b.devices) (faults devices) (told devices)) (sym items_are)
                 (captures_here (Ok n) ws gives)
 
-            records : Records moves here true gives_here.pieces b.entries.items recorded_board.entries.items
+            records : Records moves here (period_frames here b.entries.items) true gives_here.pieces b.entries.items
+                recorded_board.entries.items
                 (faults b.devices) (told b.devices) (faults devices) (told devices)
             records =
-                whole_records moves here b.entries.items order.order (faults b.devices) (faults devices)
+                whole_records moves here (period_frames here b.entries.items) b.entries.items order.order
+                (faults b.devices) (faults devices)
                 (told b.devices) (told devices) recorded_board.entries.items n (some_here some) gives_here
 
             abbrev stage_then : (ℕ → BufferData) → Stage
@@ -190,7 +205,8 @@ module _ {D E : Type 0} (faults : D → ℕ) (told : D → Option (List DeviceLo
                 ∙ ap (λ v. record (book_state b.book (stage_then datas) tally) {
                   clients = if v then b.book.clients.items else map (with_event number ws) b.book.clients.items;
                 })
-                (ap (λ k. k == 0) gives_here.frames_are ∙ some_recorded none (period_frames here) some_frame_here)
+                (ap (λ k. k == 0) gives_here.frames_are ∙ some_recorded none (period_frames here b.entries.items)
+                some_frame_here)
                 ∙ events_by datas tally none
 
             recorded_does : Does faults told moves None AnyData b recorded_board (λ st. period_plan st number)
@@ -204,11 +220,13 @@ module _ {D E : Type 0} (faults : D → ℕ) (told : D → Option (List DeviceLo
             recorded_order rested =
                 events_order state b unsignaled number ws (n == 0) cs events refl
                 (order_after moves state b unsignaled order
-                (recorded here (flat_map (λ piece. piece) gives_here.pieces) true) records.steps here.no.0
-                (period_frames here) false records.went
-                (all_fed moves here (flat_map (λ piece. piece) gives_here.pieces) here.no.0 (period_frames here)
+                (recorded here (period_frames here b.entries.items) (flat_map (λ piece. piece) gives_here.pieces) true)
+                records.steps here.no.0
+                (period_frames here b.entries.items) false records.went
+                (all_fed moves here (period_frames here b.entries.items) (flat_map (λ piece. piece) gives_here.pieces)
+                here.no.0 (period_frames here b.entries.items)
                 b.entries.items unsignaled.entries.items gives_here.turned)
-                (next_stays b unsignaled heads_stay here.no.0 (period_frames here))
+                (next_stays b unsignaled heads_stay here.no.0 (period_frames here b.entries.items)) sizes_same
                 (subst (All (IsRested state)) (sym items_are) rested) refl refl refl
                 (λ n e found. record { endpoint = e; found = found; flow = refl; format = refl })
                 seats_stay order.book order.room order.seat_room order.draft_room)
@@ -238,7 +256,8 @@ module _ {D E : Type 0} (faults : D → ℕ) (told : D → Option (List DeviceLo
               failed = notes;
             }
 
-            fails_here : Captures moves here.no.0 (period_frames here) here.format.channels (Err x) b.entries.items ys
+            fails_here : Captures moves here.no.0 (period_frames here b.entries.items) here.format.channels (Err x)
+                b.entries.items ys
                 (faults b.devices) (told b.devices) (faults devices) (told devices)
             fails_here = captures_here (Err x) ys gives
 
@@ -248,10 +267,12 @@ module _ {D E : Type 0} (faults : D → ℕ) (told : D → Option (List DeviceLo
                 (subst (λ n. AllZip (Turned moves (closes_within Removal (Some n))) ys ws) (sym due.active.number_is)
                 closes)
 
-            fails : Records moves here false fails_here.pieces b.entries.items lost_board.entries.items
+            fails : Records moves here (period_frames here b.entries.items) false fails_here.pieces b.entries.items
+                lost_board.entries.items
                 (faults b.devices) (told b.devices) (faults devices) (told devices)
             fails =
-                lost_records moves here b.entries.items order.order (faults b.devices) (faults devices)
+                lost_records moves here (period_frames here b.entries.items) b.entries.items order.order
+                (faults b.devices) (faults devices)
                 (told b.devices) (told devices) joins ys lost_board.entries.items x (some_here some) fails_here
                 closes_here
 
@@ -279,11 +300,13 @@ module _ {D E : Type 0} (faults : D → ℕ) (told : D → Option (List DeviceLo
             lost_order : All (IsRested state) ws → InOrder state lost_board
             lost_order rested =
                 order_after moves state b lost_board order
-                (recorded here (flat_map (λ piece. piece) fails_here.pieces) false) fails.steps here.no.0
-                (period_frames here) false fails.went
-                (all_lost moves here (flat_map (λ piece. piece) fails_here.pieces) here.no.0 (period_frames here)
+                (recorded here (period_frames here b.entries.items) (flat_map (λ piece. piece) fails_here.pieces) false)
+                fails.steps here.no.0
+                (period_frames here b.entries.items) false fails.went
+                (all_lost moves here (period_frames here b.entries.items) (flat_map (λ piece. piece) fails_here.pieces)
+                here.no.0 (period_frames here b.entries.items)
                 b.entries.items ys lost_board.entries.items fails_here.turned closes_here)
-                (next_stays b lost_board heads_stay here.no.0 (period_frames here))
+                (next_stays b lost_board heads_stay here.no.0 (period_frames here b.entries.items)) sizes_same
                 (subst (All (IsRested state)) (sym items_are) rested) refl refl refl
                 (keeps_place number (with_state STATE_NOTPRESENT) (λ e. refl) (λ e. refl) (λ e. refl)
                 b.book.registry.list lost_board.book.registry.list (ap (λ (r : EndpointList). r.list) is))
@@ -294,7 +317,7 @@ module _ {D E : Type 0} (faults : D → ℕ) (told : D → Option (List DeviceLo
                   number = fits.number;
                   next = fits.next;
                   block = fits.block;
-                  feed = fits.feed;
+                  fits = fits.fits;
                   format = fits.format;
                 })
                 seats_stay))

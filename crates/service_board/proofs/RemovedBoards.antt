@@ -31,7 +31,7 @@ use Rattle.service_book.specs.declared.book.Book.{Book}
 use Rattle.service_board.specs.Board.{playhead_of}
 use Rattle.stream_entries.specs.Closing.{Disconnects}
 use Rattle.service_board.specs.Does.{AnyData, Does}
-use Rattle.service_board.specs.InOrder.{InOrder, IsOn, Seats, is_seat, next_at}
+use Rattle.service_board.specs.InOrder.{InOrder, IsOn, Seats, is_seat, next_at, scratch_at}
 use Rattle.service_board.specs.NamedEndpoints.{FindsNamed}
 use Rattle.service_board.specs.declared.board.Board.{Board}
 use Rattle.service_board.specs.declared.board.Seat.{Seat}
@@ -112,6 +112,13 @@ module _ {D E : Type 0} (moves : E → List StoreStep → E → Type 0) (state :
       ∙ find_left (is_seat n) (λ s. not (is_seat number s)) (λ s own. is_left n number s.endpoint.0 other own)
       b.seats.items)
 
+  scratch_left : (n : ℕ) → (n == number) ≡ false → scratch_at n seats.items ≡ scratch_at n b.seats.items
+  scratch_left n other =
+      ap (λ (o : Option Seat). option_map_or (λ s. s.block.frames) o 0)
+      (ap (find (is_seat n)) left
+      ∙ find_left (is_seat n) (λ s. not (is_seat number s)) (λ s own. is_left n number s.endpoint.0 other own)
+      b.seats.items)
+
   keeps_on : (e : StreamEntry E) → (e.endpoint.0 == number) ≡ false →
       IsOn e b.book.registry.list b.seats.items → IsOn e registry.list seats.items
   keeps_on e other on =
@@ -124,7 +131,10 @@ module _ {D E : Type 0} (moves : E → List StoreStep → E → Type 0) (state :
             (λ x own. is_left e.endpoint.0 number x.no.0 other own) b.book.registry.list
             ∙ on.there;
         fits = on.fits;
+        some = on.some;
+        longest = on.longest;
         lasts = on.lasts;
+        holds = subst (λ k. e.period ≤ k) (sym (scratch_left e.endpoint.0 other)) on.holds;
         suited = on.suited;
         behind = subst (λ k. e.position ≤ k) (sym next) on.behind;
         hears = λ loopback. subst (λ k. e.ever ≤ k) (sym next) (on.hears loopback);

@@ -1,6 +1,7 @@
 -- An event that changes what is said of an endpoint, and nothing that its streams depend on: what it does on a board,
 -- and that the board stays in order.
-use Rattle.std.proofs.Common.{◌≡◌, ℕ, ◌*◌, ◌≤◌, ◌++◌, List, [], false, Option, Some, None, Ok, Err, refl, sym, ap, ◌∙◌}
+use Rattle.std.proofs.Common.{arith, ◌≡◌, ℕ, ◌≤◌, ◌++◌, List, [], false, Option, Some, None, Ok, Err, refl, sym, ap}
+use Rattle.std.proofs.Common.{◌∙◌}
 use Rattle.std.proofs.Common.{subst}
 use Rattle.std.proofs.lemmas.Option.{none-some}
 use Rattle.device_io.specs.DeviceLog.{DeviceLog}
@@ -21,10 +22,9 @@ use Rattle.device_registry.specs.Rows.{found_rows}
 use Rattle.ca_machine.specs.State.{State}
 use Rattle.ca_machine.specs.Devices.{missing_rows}
 use Rattle.ca_machine.specs.Plan.{Plan, granted, plain}
-use Rattle.period_engine.specs.Sounds.{HasFeedRoom}
 use Rattle.service_board.specs.Board.{state_of}
 use Rattle.service_board.specs.Does.{AnyData, Does}
-use Rattle.service_board.specs.InOrder.{InOrder, Seats}
+use Rattle.service_board.specs.InOrder.{InOrder, Seats, IsScratch}
 use Rattle.service_board.specs.Lookups.{Says}
 use Rattle.service_board.specs.NamedEndpoints.{FindsNamed}
 use Rattle.service_board.specs.declared.board.Board.{Board}
@@ -104,12 +104,10 @@ module _ {D E : Type 0} (b : Board D E) (number at : ℕ) (found : FindsNamed nu
       seats_fit s e fits = record {
         number = fits.number ∙ ap (λ n. n.0) (sym (same_number e));
         next = fits.next;
-        block =
-            subst (λ (k : Format). frames_of_time k.rate SHARED_PERIOD * k.channels ≤ s.block.samples)
-            (sym (keeps.format e)) fits.block;
-        feed =
-            subst (λ (k : Format). HasFeedRoom k.channels (frames_of_time k.rate SHARED_PERIOD) s.block)
-            (sym (keeps.format e)) fits.feed;
+        block = subst (λ (k : Format). IsScratch k.channels s.block) (sym (keeps.format e)) fits.block;
+        fits =
+            subst (λ (k : Format). frames_of_time k.rate SHARED_PERIOD ≤ s.block.frames) (sym (keeps.format e))
+            fits.fits;
         format = subst IsValid (sym (keeps.format e)) fits.format;
       }
 
@@ -119,5 +117,5 @@ module _ {D E : Type 0} (b : Board D E) (number at : ℕ) (found : FindsNamed nu
           changed_order moves state b order false Removal number b.entries
           (none_lost moves stays state Removal (Some number) b.entries order.rested) f registry changes_one b.seats
           same_number same_flow (λ e there left. ap (λ (k : Format). k.channels) (keeps.format e))
-          (λ e there left. ap (λ (k : Format). k.rate) (keeps.format e)) (λ n. refl)
+          (λ e there left. ap (λ (k : Format). k.rate) (keeps.format e)) (λ n. refl) (λ n. omega arith)
           (zip_changed number f b.seats.items b.book.registry.list seats_fit order.seats) order.seat_room

@@ -15,7 +15,7 @@ use Rattle.session_manager.specs.Changes.{Sets, after, change_rows}
 use Rattle.session_manager.specs.Sessions.{SessionList, is_session, session_at}
 use Rattle.ca_machine.specs.declared.state.Client.{Client}
 use Rattle.period_engine.specs.declared.entry.StreamEntry.{StreamEntry}
-use Rattle.service_book.specs.Gains.{gains_by}
+use Rattle.service_book.specs.Gains.{gains_by, gains_if}
 use Rattle.service_book.specs.InOrder.{IsBook}
 use Rattle.service_book.specs.declared.book.Book.{Book}
 use Rattle.service_board.specs.Gains.{changes_gains}
@@ -23,6 +23,12 @@ use Rattle.service_board.specs.InOrder.{Belongs, InOrder}
 use Rattle.service_board.specs.declared.board.Board.{Board}
 use Rattle.service_board.specs.declared.board.Seat.{Seat}
 use Rattle.service_board.proofs.ChangedClients.{Named, changed_if, clients_order, one_changes, rebooked, with_clients}
+
+-- gains that are as they were, of a stream that may be exclusive
+pub gains_alike : (exclusive : Bool) (levels : List ℕ) (s t : Option Session) → gains_by levels s ≡ gains_by levels t →
+    gains_if exclusive levels s ≡ gains_if exclusive levels t
+gains_alike true levels s t same = refl
+gains_alike false levels s t same = same
 
 -- ---- sessions
 
@@ -64,7 +70,7 @@ module _ (changed : Bool) (sessions : SessionList) (book : Book) (keeps : KeepsG
     within = h.within;
     gains = λ fresh.
         let kept = keeps fresh in
-        h.gains kept.0 ∙ sym (kept.1 h.client.levels e.session.0);
+        h.gains kept.0 ∙ gains_alike e.exclusive h.client.levels _ _ (sym (kept.1 h.client.levels e.session.0));
   }
 
 pub sessions_order : {D E : Type 0} (state : E → EndState) (b : Board D E) (changed : Bool) (sessions : SessionList) →
@@ -101,15 +107,15 @@ module _ (by : Change) where
   still_numbered true s = own_number by s
   still_numbered false s = refl
 
-  gains_if : changes_gains by ≡ false → (own : Bool) (levels : List ℕ) (s : Session) →
+  gains_where : changes_gains by ≡ false → (own : Bool) (levels : List ℕ) (s : Session) →
       gains_by levels (Some (after_if own s)) ≡ gains_by levels (Some s)
-  gains_if text true levels s = same_gains by text levels s
-  gains_if text false levels s = refl
+  gains_where text true levels s = same_gains by text levels s
+  gains_where text false levels s = refl
 
   gains_kept : changes_gains by ≡ false → (number : ℕ) (levels : List ℕ) (o : Option Session) →
       gains_by levels (option_map (λ s. after_if (is_session number s) s) o) ≡ gains_by levels o
   gains_kept text number levels None = refl
-  gains_kept text number levels (Some s) = gains_if text (is_session number s) levels s
+  gains_kept text number levels (Some s) = gains_where text (is_session number s) levels s
 
   pub gains_stay : (number : ℕ) (sessions : SessionList) (book : Book) →
       Sets number (change_rows by) (after by) (Ok tt) book.sessions sessions →

@@ -37,11 +37,13 @@ use Rattle.service_book.specs.BookState.{book_state}
 use Rattle.service_board.specs.Board.{playhead_of, state_of}
 use Rattle.service_board.specs.Does.{Does, Made, after_steps, layout_at, store_at}
 use Rattle.service_book.specs.InOrder.{IsBook}
-use Rattle.service_book.specs.Gains.{gains_by}
+use Rattle.service_book.specs.Gains.{gains_if}
 use Rattle.service_book.specs.declared.book.Book.{Book}
-use Rattle.service_board.specs.InOrder.{IsOn, Belongs, InOrder, Seats, next_at, suits}
+use Rattle.service_board.specs.InOrder.{AreAlike, IsOn, Belongs, InOrder, Seats, next_at, scratch_at, suits}
+use Rattle.reply_payload.specs.declared.packets.TheConstants.{MOST_FRAMES}
 use Rattle.service_board.specs.declared.board.Board.{Board}
 use Rattle.service_board.specs.declared.board.Seat.{Seat}
+use Rattle.service_board.proofs.AlikeEntries.{kept_alike, kept_set}
 use Rattle.service_board.proofs.PlainEvents.{answers_refused}
 use Rattle.service_board.proofs.OneEntry.{IsSole, agrees_found, layout_found, made_only, only, only_here, packs_only}
 use Rattle.service_board.proofs.OneEntry.{sole_there, streams_set}
@@ -91,7 +93,12 @@ on_kept endpoints seats a b same before offered on = record {
   endpoint = on.endpoint;
   there = ap (λ k. find (is_endpoint k.0) endpoints) same.endpoint ∙ on.there;
   fits = same.channels ∙ on.fits;
-  lasts = same.period ∙ on.lasts;
+  some = subst (λ k. 1 ≤ k) (sym same.period) on.some;
+  longest = subst (λ k. k ≤ MOST_FRAMES) (sym same.period) on.longest;
+  lasts = λ shared. same.period ∙ on.lasts (sym same.exclusive ∙ shared);
+  holds =
+      subst (λ k. k ≤ scratch_at b.endpoint.0 seats) (sym same.period)
+      (subst (λ k. a.period ≤ scratch_at k.0 seats) (sym same.endpoint) on.holds);
   suited = ap (suits on.endpoint.flow) same.kind ∙ on.suited;
   behind =
       let place : a.position ≤ next_at b.endpoint.0 seats =
@@ -117,7 +124,8 @@ belongs_kept book seats a b same opens before offered h = record {
   gains = λ fresh.
       same.gains
       ∙ h.gains fresh
-      ∙ ap (λ s. gains_by h.client.levels (session_at s.0 book.sessions.list)) (sym same.session);
+      ∙ ap₂ (λ v s. gains_if v h.client.levels (session_at s.0 book.sessions.list)) (sym same.exclusive)
+      (sym same.session);
 }
 
 -- a board stays in order
@@ -143,6 +151,15 @@ order_kept state old new at a b here opens one same rested before offered order 
           (subst (λ ss. All (Belongs old.book ss) (set xs at b)) (sym one.seats)
           (All-set (Belongs old.book old.seats.items) xs at b
           (belongs_kept old.book old.seats.items a b same opens before offered belonged) order.belong)));
+      alike =
+          subst AreAlike (sym one.entries)
+          (kept_alike xs (set xs at b)
+          (kept_set xs at a b here (record {
+            endpoint = ap (λ n. n.0) same.endpoint;
+            exclusive = same.exclusive;
+            period = same.period;
+            opens = opens;
+          })) order.alike);
       seats = subst (λ ss. AllZip Seats ss new.book.registry.list) (sym one.seats)
           (subst (λ k. AllZip Seats old.seats.items k.registry.list) (sym one.book) order.seats);
       book = subst IsBook (sym one.book) order.book;

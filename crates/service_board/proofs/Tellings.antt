@@ -35,6 +35,7 @@ drafted_order state b queues drafts same room order =
             within = h.within;
             gains = h.gains;
           }) b.entries.items order.belong;
+      alike = order.alike;
       seats = order.seats;
       book = record {
         rooms = record {

@@ -26,7 +26,7 @@ use Rattle.service_board.specs.declared.board.Seat.{Seat}
 
 -- ---- what a test of an endpoint's entries tells
 
-open_by : (seen : Gate) → is_open_gate seen ≡ true → seen ≡ gate.Open
+pub open_by : (seen : Gate) → is_open_gate seen ≡ true → seen ≡ gate.Open
 open_by gate.Open h = refl
 open_by (gate.Closed reason) h = absurd (false≢true h)
 

@@ -4,12 +4,13 @@ use Rattle.std.specs.List.{All, find}
 use Rattle.ca_base.specs.declared.ids.Flow.{Flow}
 use Rattle.ca_base.specs.declared.ids.Flow.TheVariants as flow
 use Rattle.ca_base.specs.declared.limits.TheConstants.{MAX_COUNT}
-use Rattle.ca_machine.specs.Periods.{period_frames, period_plan}
+use Rattle.ca_machine.specs.Periods.{period_plan}
 use Rattle.device_registry.specs.declared.endpoint.Endpoint.{Endpoint}
 use Rattle.period_engine.specs.declared.entry.StreamEntry.{StreamEntry}
 use Rattle.period_engine.specs.Entries.{is_recorded}
 use Rattle.service_book.specs.declared.book.Book.{Book}
 use Rattle.service_book.specs.Lookups.{IsActiveAt}
+use Rattle.stream_entries.specs.Holding.{period_frames}
 use Rattle.service_board.specs.InOrder.{Seats, is_seat}
 use Rattle.service_board.specs.Lookups.{Says}
 use Rattle.service_board.specs.declared.board.Board.{Board}
@@ -27,14 +28,16 @@ is_capture_flow flow.Capture = true
 abbrev pub is_worn_entry : {E : Type 0} → ℕ → ℕ → StreamEntry E → Bool
 is_worn_entry number frames e = is_recorded number e && nat_lt MAX_COUNT (e.ever + frames)
 
--- at this place stands an endpoint, which is ACTIVE, and its seat, which has room for a period, and so have the counts
--- of those that record the endpoint; and no row of the period holds
+-- at this place stands an endpoint, which is ACTIVE, and its seat, whose scratch and next place have room for a period,
+-- and so have the counts of those that record the endpoint; and no row of the period holds
 pub record FindsDue {D E : Type 0} (number : ℕ) (b : Board D E) (at : ℕ) : Type 0 where
   pub active : IsActiveAt number b.book at
   pub seat : Seat
   pub seat_here : slice_get b.seats.items at ≡ Some seat
   pub seat_found : find (is_seat number) b.seats.items ≡ Some seat
   pub seats : Seats seat active.endpoint
-  pub room : seat.next + period_frames active.endpoint ≤ MAX_COUNT
-  pub ever : All (λ e. is_recorded number e ≡ true → e.ever + period_frames active.endpoint ≤ MAX_COUNT) b.entries.items
+  pub fits : period_frames active.endpoint b.entries.items ≤ seat.block.frames
+  pub room : seat.next + period_frames active.endpoint b.entries.items ≤ MAX_COUNT
+  pub ever : All (λ e. is_recorded number e ≡ true → e.ever + period_frames active.endpoint b.entries.items ≤ MAX_COUNT)
+      b.entries.items
   pub says : Says b (λ st. (period_plan st number).rows) None

@@ -17,7 +17,7 @@ use device_io::Devices;
 use device_registry::Endpoint;
 use period_engine::Block;
 use reply_payload::Payload;
-use service_book::{flow_of, period_frames};
+use service_book::{flow_of, shared_frames};
 use std::alloc::Global;
 use wave_format::{Format, read_format};
 
@@ -75,7 +75,7 @@ impl<D: Devices, E: EngineSide> Board<D, E> {
             allow: true,
             priority: true,
         };
-        let Ok(block) = Block::new(alloc, period_frames(&endpoint), format.channels) else {
+        let Ok(block) = Block::new(alloc, shared_frames(&endpoint), format.channels) else {
             return Err(Hr::E_OUTOFMEMORY);
         };
         let Ok(()) = self.book.registry.add(endpoint) else {

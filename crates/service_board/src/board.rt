@@ -20,6 +20,14 @@ pub struct Seat {
     pub block: Block,
 }
 
+/// What was made for a stream that is to be opened: its store, and scratch for its endpoint's periods if that was
+/// planned.
+#[derive(Drop)]
+pub struct NewStream<E> {
+    pub store: E,
+    pub block: Option<Block>,
+}
+
 /// The devices, the book, a seat for each endpoint in the book's order, the engine's end of each stream in the order of
 /// the clients' numbers, and scratch for what is told.
 #[derive(Drop)]

@@ -20,7 +20,7 @@ use device_io::Devices;
 use period_engine::Block;
 use reply_payload::Payload;
 use service_book::{
-    is_text, is_wrong_choice, is_wrong_use, leaves_active, matches, period_frames, with_exclusive,
+    is_text, is_wrong_choice, is_wrong_use, leaves_active, matches, shared_frames, with_exclusive,
     with_format, with_name,
 };
 use std::alloc::Global;
@@ -87,7 +87,7 @@ impl<D: Devices, E: EngineSide> Board<D, E> {
     }
 
     /// Gives an endpoint another format, as the bytes of a WAVEFORMATEX. If channels or rate differ, its streams are
-    /// closed. The memory for its periods is taken before anything is changed.
+    /// closed. The memory for its periods is taken before anything is changed: for the longest that it had room for.
     ///
     /// Errors: those of the look-up, E_INVALIDARG if the bytes are no format, E_OUTOFMEMORY.
     pub fn set_format(&mut self, alloc: Global, e: EndpointNo, format: &[u8]) -> Result<Payload, Hr>
@@ -103,7 +103,8 @@ impl<D: Devices, E: EngineSide> Board<D, E> {
         let old = &self.book.registry.endpoints()[at];
         let lost = !matches(&old.format, &format);
         let endpoint = with_format(old, format);
-        let Ok(block) = Block::new(alloc, period_frames(&endpoint), format.channels) else {
+        let frames = shared_frames(&endpoint).max(self.seats[at].block.frames());
+        let Ok(block) = Block::new(alloc, frames, format.channels) else {
             return Err(Hr::E_OUTOFMEMORY);
         };
         let Ok(()) = self.book.registry.replace(endpoint) else {
@@ -114,8 +115,8 @@ impl<D: Devices, E: EngineSide> Board<D, E> {
         Ok(Payload::Nothing)
     }
 
-    /// Sets whether an endpoint may be used by one stream alone, and whether that takes precedence over shared streams: 0
-    /// or 1 each. A stream that is there stays.
+    /// Sets whether an endpoint may be used by one stream alone, and whether that takes precedence over shared streams:
+    /// 0 or 1 each. A stream that is there stays.
     ///
     /// Errors: those of the look-up, E_INVALIDARG for another value.
     pub fn set_exclusive(&mut self, e: EndpointNo, allow: u8, priority: u8) -> Result<Payload, Hr>

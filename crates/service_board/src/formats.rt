@@ -9,7 +9,6 @@ ghost use Rattle.service_board.specs.InOrder.{InOrder};
 use crate::Board;
 use buffer_ring::EngineSide;
 use ca_base::limits::{MIN_EXCLUSIVE_PERIOD, SHARED_PERIOD};
-use ca_base::values::SHARE_EXCLUSIVE;
 use ca_base::{ClientNo, ConnNo, Hr};
 use device_io::Devices;
 use reply_payload::Payload;
@@ -40,7 +39,7 @@ impl<D: Devices, E: EngineSide> Board<D, E> {
         Ok(Payload::Longs(SHARED_PERIOD, MIN_EXCLUSIVE_PERIOD))
     }
 
-    /// IAudioClient::IsFormatSupported of a shared stream, for a format's bytes: S_FALSE comes with the closest format.
+    /// IAudioClient::IsFormatSupported, for a format's bytes: S_FALSE comes with the closest format of a shared stream.
     pub fn is_format_supported(
         &self,
         conn: ConnNo,
@@ -54,13 +53,7 @@ impl<D: Devices, E: EngineSide> Board<D, E> {
             (code_of result) (payload_of result) }
     {
         self.connected(conn)?;
-        if share == SHARE_EXCLUSIVE {
-            return Err(Hr::E_NOTIMPL);
-        }
         let at = self.valid_endpoint(conn, client)?;
-        if share > SHARE_EXCLUSIVE {
-            return Err(Hr::E_INVALIDARG);
-        }
-        support(&self.book.endpoint(at).format, format)
+        support(share, self.book.endpoint(at), format)
     }
 }

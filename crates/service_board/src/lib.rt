@@ -24,4 +24,4 @@ mod sessions;
 mod streams;
 mod telling;
 
-pub use board::{Board, Seat};
+pub use board::{Board, NewStream, Seat};

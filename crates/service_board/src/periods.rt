@@ -24,8 +24,7 @@ use device_io::Devices;
 use device_registry::Endpoint;
 use period_engine::{StreamEntry, feed_capture, feed_loopback, retire};
 use reply_payload::Payload;
-use service_book::period_frames;
-use stream_entries::{set_events, set_recorded_events};
+use stream_entries::{period_frames, set_events, set_recorded_events};
 
 /// The gain of each channel of an endpoint: none changes anything.
 const END_GAINS: [u32; 4] = [MAX_LEVEL; 4];
@@ -67,7 +66,7 @@ impl<D: Devices, E: EngineSide> Board<D, E> {
         if endpoint.state != STATE_ACTIVE {
             return Err(Hr::DEVICE_INVALIDATED);
         }
-        let frames = period_frames(endpoint);
+        let frames = period_frames(&self.entries, endpoint);
         let next = self.seats[at].next;
         if next + frames as u64 > MAX_COUNT || self.is_worn(endpoint, frames) {
             return Err(Hr::WORN);
@@ -117,7 +116,7 @@ impl<D: Devices, E: EngineSide> Board<D, E> {
         ensures notes { NotesFailure result self.old.failed self.new.failed self.old }
     {
         let endpoint = self.book.endpoint(at);
-        let frames = period_frames(endpoint);
+        let frames = period_frames(&self.entries, endpoint);
         let ends = &END_GAINS[..endpoint.format.channels as usize];
         let seat = &mut self.seats[at];
         let entries: &mut [StreamEntry<E>] = &mut self.entries;
@@ -165,7 +164,7 @@ impl<D: Devices, E: EngineSide> Board<D, E> {
             });
         }
         let endpoint = self.book.endpoint(at);
-        let frames = period_frames(endpoint);
+        let frames = period_frames(&self.entries, endpoint);
         let channels = endpoint.format.channels;
         let seat = &mut self.seats[at];
         let entries: &mut [StreamEntry<E>] = &mut self.entries;

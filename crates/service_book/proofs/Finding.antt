@@ -4,7 +4,7 @@ use Rattle.std.proofs.Common.{Option, Some, None, refl, sym, ap, subst, ◌∙�
 use Rattle.std.proofs.Common.{get_or, if◌then◌else◌}
 use Rattle.std.specs.Option.{option_map}
 use Rattle.std.specs.List.{find, position, position_or_len, slice_get}
-use Rattle.std.proofs.lemmas.Option.{cond_some, none-some, slice_get_cases, slice_get_past}
+use Rattle.std.proofs.lemmas.Option.{cond_some, get_or_from_slice_get, none-some, slice_get_cases, slice_get_past}
 use Rattle.std.proofs.lemmas.List.Folds.{find_at}
 use Rattle.ca_base.specs.Rows.{Row, first}
 use Rattle.ca_stage.proofs.Lists.{found_passes}
@@ -79,3 +79,10 @@ first_front (row ∷ front) rest code e = by row.0 row.1 (first front) e (first_
         (if b then Some c else first (front ++ rest)) ≡ Some code
     by true c o h later = h
     by false c o h later = later h
+
+-- what is read at the first place that passes is what is found
+pub found_there : {X : Type 0} (test : X → Bool) (xs : List X) (at : ℕ) (x : X) →
+    Some at ≡ position test xs → x ≡ get_or xs at x → find test xs ≡ Some x
+found_there test xs at x there read =
+    let f = found_at test xs at there in
+    f.found ∙ ap (λ y. Some y) (sym (get_or_from_slice_get xs at f.member x f.here) ∙ sym read)

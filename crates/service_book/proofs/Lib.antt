@@ -1,7 +1,6 @@
 pub mod Finding
 pub mod Rows
 pub mod SortedSearch
-pub mod Joining
 pub mod Supporting
 pub mod Texts
 pub mod ActiveEndpoints

@@ -1,15 +1,14 @@
 -- What a format's bytes are to an endpoint's format, by what they spell.
-use Rattle.std.proofs.Common.{◌≡◌, ℕ, ◌==◌, ◌&&◌, ◌||◌, not, nat_le, List, Bool, true, false, Option, Some, None}
-use Rattle.std.proofs.Common.{Ok, Err, refl, sym, ap, ap₂, ◌∙◌, if◌then◌else◌, is_some}
+use Rattle.std.proofs.Common.{◌≡◌, ℕ, ◌||◌, not, nat_le, List, true, false, Option, Some, None}
+use Rattle.std.proofs.Common.{Ok, Err, refl, sym, ap, ◌∙◌, is_some}
 use Rattle.std.specs.Option.{option_map_or}
 use Rattle.ca_base.specs.declared.codes.TheConstants.Hr as hr
 use Rattle.wave_format.specs.declared.format.Format.{Format}
 use Rattle.wave_format.specs.declared.format.FormatFault.{FormatFault}
 use Rattle.wave_format.specs.Format.{format_at, spelled, unless_fault}
-use Rattle.ca_machine.specs.Formats.{fault_of, matches}
-use Rattle.service_book.specs.Formats.{TellsSupport}
-use Rattle.reply_payload.specs.declared.payload.Payload.{Payload}
-use Rattle.reply_payload.specs.declared.payload.Payload.TheVariants as payload
+use Rattle.wave_format.proofs.FormatLaws.{read-valid}
+use Rattle.ca_machine.specs.Formats.{admits, fault_of, is_malformed}
+use Rattle.service_book.specs.Formats.{Admitted, is_unsupported}
 
 -- bytes that spell a format have no fault
 spells : (v : Option ℕ) (s format : Format) → Ok format ≡ unless_fault v s → (v ≡ None) × (s ≡ format)
@@ -23,30 +22,42 @@ faults (Some n) s fault e =
     let same : fault ≡ record { 0 = n } = cc in
     ap (λ f. Some f.0) (sym same)
 
--- the answer, by whether there is a fault and whether the formats match
-abbrev answer_for : Format → Bool → Bool → Payload
-answer_for mix faulty fits = if faulty || not fits then payload.Closest mix else payload.Nothing
-
-module _ (mix : Format) (bytes : List ℕ) where
-  pub tells_format : (format : Format) (fits : Bool) → Ok format ≡ format_at bytes →
-      (mix.channels == format.channels && mix.rate == format.rate) ≡ fits →
-      TellsSupport (Ok (answer_for mix false fits)) mix bytes
-  tells_format format fits e same =
+module _ (share : ℕ) (mix : Format) (bytes : List ℕ) where
+  -- bytes that spell a format, by whether it is admitted
+  pub reads_format : (format : Format) → Ok format ≡ format_at bytes →
+      (is_malformed bytes ≡ false) × (is_unsupported share mix bytes ≡ not (admits share mix format)) ×
+      (format ≡ spelled bytes)
+  reads_format format e =
       let p = spells (fault_of bytes) (spelled bytes) format e in (
         ap (λ v. option_map_or (λ fault. nat_le fault 2) v false) p.0,
-        sym (ap₂ (λ v s. answer_for mix (is_some v) (matches mix s)) p.0 p.1 ∙ ap (answer_for mix false) same),
+        ap (λ v. is_some v || not (admits share mix (spelled bytes))) p.0
+            ∙ ap (λ f. not (admits share mix f)) p.1,
+        sym p.1,
       )
 
-  pub tells_fault : (fault : FormatFault) → Err fault ≡ format_at bytes → nat_le fault.0 2 ≡ false →
-      TellsSupport (Ok (payload.Closest mix)) mix bytes
-  tells_fault fault e beyond =
+  pub admits_format : (format : Format) → Ok format ≡ format_at bytes → true ≡ admits share mix format →
+      Admitted (Ok (Some format)) share mix bytes
+  admits_format format e a =
+      let p = reads_format format e in (
+        p.0,
+        p.1 ∙ ap not (sym a),
+        record { spells = p.2; valid = read-valid bytes format (sym e); admits = sym a },
+      )
+
+  pub admits_none : (format : Format) → Ok format ≡ format_at bytes → false ≡ admits share mix format →
+      Admitted (Ok None) share mix bytes
+  admits_none format e a = let p = reads_format format e in (p.0, p.1 ∙ ap not (sym a))
+
+  pub admits_fault : (fault : FormatFault) → Err fault ≡ format_at bytes → nat_le fault.0 2 ≡ false →
+      Admitted (Ok None) share mix bytes
+  admits_fault fault e beyond =
       let p = faults (fault_of bytes) (spelled bytes) fault e in (
         ap (λ v. option_map_or (λ n. nat_le n 2) v false) p ∙ beyond,
-        sym (ap (λ v. answer_for mix (is_some v) (matches mix (spelled bytes))) p),
+        ap (λ v. is_some v || not (admits share mix (spelled bytes))) p,
       )
 
-  pub tells_malformed : (fault : FormatFault) → Err fault ≡ format_at bytes → nat_le fault.0 2 ≡ true →
-      TellsSupport (Err hr.E_INVALIDARG) mix bytes
-  tells_malformed fault e within =
+  pub is_no_format : (fault : FormatFault) → Err fault ≡ format_at bytes → nat_le fault.0 2 ≡ true →
+      Admitted (Err hr.E_INVALIDARG) share mix bytes
+  is_no_format fault e within =
       let p = faults (fault_of bytes) (spelled bytes) fault e in
       (ap (λ v. option_map_or (λ n. nat_le n 2) v false) p ∙ within, refl)

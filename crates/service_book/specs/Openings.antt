@@ -1,27 +1,25 @@
 -- What an Initialize asks for, and the session that its stream joins, as the code has it (this project's own).
-use Rattle.std.specs.Prelude.{◌≡◌, ◌==◌, ◌&&◌, ◌||◌, not, nat_lt, List, [], ◌∷◌, true, None}
+use Rattle.std.specs.Prelude.{◌≡◌, ◌*◌, ◌≤◌, [], ◌∷◌, true, false, None}
 use Rattle.std.specs.Prelude.{if◌then◌else◌}
-use Rattle.ca_base.specs.declared.codes.Hr.{Hr}
-use Rattle.ca_base.specs.declared.codes.TheConstants.Hr as hr
 use Rattle.ca_base.specs.declared.ids.EndpointNo.{EndpointNo}
-use Rattle.ca_base.specs.declared.ids.Flow.{Flow}
 use Rattle.ca_base.specs.declared.ids.SessionNo.{SessionNo}
-use Rattle.ca_base.specs.declared.values.TheConstants.{FLOW_CAPTURE, SHARE_EXCLUSIVE}
-use Rattle.ca_base.specs.Rows.{Row}
+use Rattle.ca_base.specs.declared.ids.StreamKind.{StreamKind}
+use Rattle.ca_base.specs.declared.limits.TheConstants.{MAX_EXCLUSIVE_BUFFER, MAX_EXCLUSIVE_PERIOD, MAX_STORE_WORDS}
 use Rattle.wave_format.specs.declared.format.Format.{Format}
 use Rattle.wave_format.specs.Format.{IsValid, spelled}
-use Rattle.device_registry.specs.Endpoints.{flow_number}
 use Rattle.session_manager.specs.declared.session.SessionKey.{SessionKey}
 use Rattle.session_manager.specs.Sessions.{joined, number_joined}
 use Rattle.ca_machine.specs.declared.state.Connection.{Connection}
 use Rattle.ca_machine.specs.State.{State}
 use Rattle.ca_machine.specs.Plan.{Plan}
-use Rattle.ca_machine.specs.Openings.{Opening, has_loopback, has_other_flag, initialize_plan, is_cross_process}
-use Rattle.ca_machine.specs.Openings.{is_kept, is_too_long}
-use Rattle.ca_machine.specs.Formats.{is_faulty, is_malformed, matches}
+use Rattle.ca_machine.specs.Formats.{is_exclusive}
+use Rattle.ca_machine.specs.Openings.{Opening, buffer_of, buffers_of, frames_of_period, has_event, initialize_plan}
+use Rattle.ca_machine.specs.Openings.{is_cross_process, is_kept, period_of, words_stored}
+use Rattle.reply_payload.specs.declared.packets.TheConstants.{MOST_FRAMES}
 use Rattle.service_book.specs.declared.book.Book.{Book}
 use Rattle.service_book.specs.declared.opening.Opening.{Opening as Asked}
 use Rattle.service_book.specs.declared.opening.OpeningPlan.{OpeningPlan}
+use Rattle.service_book.specs.declared.opening.Sizes.{Sizes}
 
 -- the arguments of an Initialize, as the machine has them
 abbrev pub arguments : Asked → Opening
@@ -34,32 +32,30 @@ arguments x = record {
   session = x.session.0;
 }
 
--- the share mode, flags or times are ones that there aren't
-abbrev pub argument_rows : Opening → List (Row Hr)
-argument_rows x = (
-  nat_lt SHARE_EXCLUSIVE x.share
-      || (has_other_flag x.flags || (is_too_long x.duration || is_too_long x.period)),
-  hr.E_INVALIDARG,
-)
-    ∷ []
-
--- the endpoint records, and LOOPBACK asks for what it plays
-abbrev pub flow_rows : Flow → Opening → List (Row Hr)
-flow_rows flow x = (has_loopback x.flags && flow_number flow == FLOW_CAPTURE, hr.WRONG_ENDPOINT_TYPE) ∷ []
-
--- the format isn't that of an endpoint with this one
-abbrev pub format_rows : Format → Opening → List (Row Hr)
-format_rows endpoint x =
-    (is_malformed x.format, hr.E_INVALIDARG)
-    ∷ (is_faulty x.format || not (matches endpoint (spelled x.format)), hr.UNSUPPORTED_FORMAT)
-    ∷ []
-
--- the format that was asked for, which the endpoint's matches
+-- the format that was asked for, which the endpoint's admits
 pub record HasFormat (endpoint : Format) (x : Asked) (format : Format) : Type 0 where
   pub spells : format ≡ spelled x.format.now
   pub valid : IsValid format
   pub channels : format.channels ≡ endpoint.channels
-  pub rate : format.rate ≡ endpoint.rate
+  pub rate : is_exclusive x.share ≡ false → format.rate ≡ endpoint.rate
+
+-- an exclusive stream has a period and a buffer that there are; if it is driven by events, they last as long
+pub record IsInRange (x : Asked) : Type 0 where
+  pub period : is_exclusive x.share ≡ true → x.period ≤ MAX_EXCLUSIVE_PERIOD
+  pub duration : is_exclusive x.share ≡ true → x.duration ≤ MAX_EXCLUSIVE_BUFFER
+  pub same : is_exclusive x.share ≡ true → has_event x.flags ≡ true → x.duration ≡ x.period
+
+-- the sizes of a stream of this kind that is opened
+pub record AreSizes (x : Asked) (kind : StreamKind) (sizes : Sizes) : Type 0 where
+  pub latency : sizes.latency ≡ period_of (arguments x)
+  pub period : sizes.period ≡ frames_of_period (arguments x)
+  pub some_period : 1 ≤ sizes.period
+  pub longest : sizes.period ≤ MOST_FRAMES
+  pub buffer : sizes.buffer ≡ buffer_of (arguments x)
+  pub whole : sizes.period ≤ sizes.buffer
+  pub words : sizes.words ≡ words_stored kind (buffers_of (arguments x) * sizes.buffer) sizes.period
+  pub some : 1 ≤ sizes.words
+  pub most : sizes.words ≤ MAX_STORE_WORDS
 
 -- the table of an Initialize
 abbrev pub opening_plan : Asked → State → Plan

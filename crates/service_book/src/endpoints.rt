@@ -3,7 +3,7 @@
 ghost use Rattle.std.specs.Prelude.{◌≡◌, ◌||◌, not, nat_le, nat_lt, Some};
 ghost use Rattle.std.specs.Str.{is_utf8};
 ghost use Rattle.ca_machine.specs.Devices.{is_wrong_choice, leaves_active, with_exclusive, with_name};
-ghost use Rattle.ca_machine.specs.Periods.{period_frames};
+ghost use Rattle.ca_machine.specs.Periods.{shared_frames};
 
 use crate::Book;
 use ca_base::limits::SHARED_PERIOD;
@@ -19,9 +19,9 @@ pub fn is_text(bytes: &[u8]) -> bool
     str::from_utf8(bytes).is_ok()
 }
 
-/// The frames of an endpoint's period.
-pub fn period_frames(e: &Endpoint) -> u32
-    ensures { result ≡ period_frames e.now }
+/// The frames of the period of an endpoint's shared streams.
+pub fn shared_frames(e: &Endpoint) -> u32
+    ensures { result ≡ shared_frames e.now }
 {
     frames_of(e.format.rate, SHARED_PERIOD) as u32
 }

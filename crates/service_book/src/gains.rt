@@ -6,7 +6,7 @@ ghost use Rattle.std.specs.Option.{option_copied};
 ghost use Rattle.volume_stack.specs.Scaling.{unit_gain};
 ghost use Rattle.session_manager.specs.Book.{IsSession};
 ghost use Rattle.ca_machine.specs.Periods.{gain_in};
-ghost use Rattle.service_book.specs.Gains.{gains_by};
+ghost use Rattle.service_book.specs.Gains.{gains_if};
 
 use ca_base::limits::MAX_LEVEL;
 use session_manager::Session;
@@ -29,13 +29,17 @@ fn gain_in(levels: &[u32; 4], session: &Session, channel: usize) -> u32
     })
 }
 
-/// The gains of the channels of a stream with these levels, in its session: 0 if the session isn't there.
-pub fn gains_in(levels: &[u32; 4], session: Option<&Session>) -> [u32; 4]
+/// The gains of the channels of a stream: those of its levels and its session, 0 if the session isn't there; an
+/// exclusive stream sounds as it is.
+pub fn gains_if(exclusive: bool, levels: &[u32; 4], session: Option<&Session>) -> [u32; 4]
     requires levels { All (λ level. level ≤ unit_gain) levels.now }
     requires session { IfSome session (λ s. IsSession s.now) }
-    ensures gains { result ≡ gains_by levels.now (option_copied session.entry) }
+    ensures gains { result ≡ gains_if exclusive levels.now (option_copied session.entry) }
     ensures within { All (λ gain. gain ≤ unit_gain) result }
 {
+    if exclusive {
+        return [MAX_LEVEL; 4];
+    }
     match session {
         Some(session) => [
             gain_in(levels, session, 0),

@@ -23,12 +23,12 @@ pub use endpoint_data::{
     flow_of, is_wrong_default, is_wrong_enumeration, number_named, put_matching,
 };
 pub use endpoints::{
-    is_text, is_wrong_choice, is_wrong_use, leaves_active, period_frames, with_exclusive,
+    is_text, is_wrong_choice, is_wrong_use, leaves_active, shared_frames, with_exclusive,
     with_format, with_name,
 };
-pub use formats::support;
-pub use gains::gains_in;
+pub use formats::{matches, support};
+pub use gains::gains_if;
 pub use leaving::{drop_client, drop_clients, drop_connection, drop_notices, is_live};
-pub use opening::{Opening, OpeningPlan, matches, shared_buffer, shared_period, words_stored};
+pub use opening::{Opening, OpeningPlan, Sizes};
 pub use services::{is_of_other_kind, is_service};
 pub use telling::{put_note, put_step};

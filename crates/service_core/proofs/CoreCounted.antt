@@ -69,26 +69,14 @@ module _ {D F : Type 0} (faults : D → ℕ) (told : D → Option (List DeviceLo
     (new_order : InOrder (λ ends. state ends.store) new) (before more : ℕ)
     (counts : before ≡ sum_by (words_in kept streams.Open) first.entries.items)
     (is_more : more ≡ before - sum_by (words_in kept streams.Open) new.entries.items)
-    (known : (ℕ → BufferData) → Type 0) (plan : State → Plan) (answer : Hr) (payload : List ℕ)
-    (does : Does faults told (MovesStore moves) None known old new plan answer payload)
-    (knows : known (core_datas kept old.entries.items)) (keeps : (st : State) → Keeps st (plan st)) where
+    (plan : State → Plan) (answer : Hr) (payload : List ℕ) where
   old_core : IsCore state kept old
   old_core = still_core kept state whole first old enters core
 
-  pub counted_core : IsCore state kept last
-  counted_core =
-      still_core kept state whole new last leaves
-      (board_core faults told kept state moves exact old new old_core new_order plan answer payload keeps known does
-      knows)
-
-  goes : (tally : Tally) → Goes faults told kept plan answer payload tally old new
-  goes tally =
-      board_goes faults told kept state moves exact old new old_core new_order plan answer payload keeps known does
-      knows tally
-
   -- what was counted is what the event took
-  taken_is : (tally : Tally) → taken faults told kept plan answer payload tally old new (goes tally) ≡ more
-  taken_is tally =
+  taken_is : (tally : Tally) (goes : Goes faults told kept plan answer payload tally old new) →
+      taken faults told kept plan answer payload tally old new goes ≡ more
+  taken_is tally goes =
       ap₂ (λ a b. a - b)
       (sym (ap (λ s. open_padding s.stage) (sym (around_state kept state whole first old enters tally)))
       ∙ sym (pending_is kept first tally core.order.order) ∙ sym counts)
@@ -107,55 +95,87 @@ module _ {D F : Type 0} (faults : D → ℕ) (told : D → Option (List DeviceLo
   abbrev ends : Tally → List Answer → Outcome
   ends tally given = outcome_of (comes tally) (plan (comes tally)) given
 
-  pub counted_reset : (tally : Tally) →
-      (RisesFrom 0 (clients (comes tally).stage) → (given : List Answer) →
-      WereReset (comes tally) (ends tally given).after) →
-      GoesTo faults told kept plan answer payload tally (more_reset more tally) first last
-  counted_reset tally were =
-      around tally (more_reset more tally)
-      (subst (λ n. GoesTo faults told kept plan answer payload tally (more_reset n tally) old new) (taken_is tally)
-      (goes_reset faults told kept plan answer payload tally old new (goes tally)
-      (were (rises kept state old tally old_core.order))))
-
-  counted_dropped : (tally : Tally) →
+  dropped_by : (tally : Tally) → Goes faults told kept plan answer payload tally old new →
       (RisesFrom 0 (clients (comes tally).stage) → AreGone (live_clients old.book.clients.items) (comes tally).stage →
       (given : List Answer) → WereDropped (comes tally) (ends tally given).after) →
       GoesTo faults told kept plan answer payload tally (more_dropped more tally) first last
-  counted_dropped tally were =
+  dropped_by tally goes were =
       around tally (more_dropped more tally)
-      (subst (λ n. GoesTo faults told kept plan answer payload tally (more_dropped n tally) old new) (taken_is tally)
-      (goes_dropped faults told kept plan answer payload tally old new (goes tally)
+      (subst (λ n. GoesTo faults told kept plan answer payload tally (more_dropped n tally) old new)
+      (taken_is tally goes)
+      (goes_dropped faults told kept plan answer payload tally old new goes
       (were (rises kept state old tally old_core.order) (gone kept state old tally old_core.order))))
 
-  -- both, for every tally: what it does, and that the service is in order after it
-  pub dropped_ends : ((tally : Tally) → HasCounts tally →
+  -- for every tally what it does, and that the service is in order after it, of an event that leaves it so
+  pub dropped_from : ((tally : Tally) → Goes faults told kept plan answer payload tally old new) →
+      IsCore state kept new → ((tally : Tally) → HasCounts tally →
       RisesFrom 0 (clients (comes tally).stage) → AreGone (live_clients old.book.clients.items) (comes tally).stage →
       (given : List Answer) → WereDropped (comes tally) (ends tally given).after) →
       ((tally : Tally) → HasCounts tally → GoesTo faults told kept plan answer payload tally (more_dropped more tally)
       first last)
       × IsCore state kept last
-  dropped_ends were = (λ tally fits. counted_dropped tally (were tally fits), counted_core)
+  dropped_from goes new_core were = (
+    λ tally fits. dropped_by tally (goes tally) (were tally fits),
+    still_core kept state whole new last leaves new_core,
+  )
 
-  -- an event that took nothing from the tally
-  pub counted_still : (tally : Tally) →
-      (RisesFrom 0 (clients (comes tally).stage) → (given : List Answer) → [] ≡ (ends tally given).payload →
-      (ends tally given).after.tally ≡ tally) →
-      [] ≡ payload → GoesTo faults told kept plan answer payload tally tally first last
-  counted_still tally stays none =
-      around tally tally
-      (goes_nothing faults told kept plan answer payload tally old new (goes tally)
-      (stays (rises kept state old tally old_core.order)) none)
+  -- of an event that gets no store
+  module _ (known : (ℕ → BufferData) → Type 0)
+      (does : Does faults told (MovesStore moves) None known old new plan answer payload)
+      (knows : known (core_datas kept old.entries.items)) (keeps : (st : State) → Keeps st (plan st)) where
+    new_core : IsCore state kept new
+    new_core =
+        board_core faults told kept state moves exact old new old_core new_order plan answer payload keeps known does
+        knows
 
-  pub counted_taking : (tally : Tally) (frames : ℕ) (failed : Bool) →
-      (RisesFrom 0 (clients (comes tally).stage) → (given : List Answer) →
-      to_le_bytes w32 frames ++ (if failed then 1 else 0) ∷ [] ≡ (ends tally given).payload →
-      WereTaken failed (comes tally) (ends tally given).after) →
-      to_le_bytes w32 frames ++ (if failed then 1 else 0) ∷ [] ≡ payload →
-      GoesTo faults told kept plan answer payload tally (after_taking (Ok (payloads.Period frames failed)) more tally)
-      first last
-  counted_taking tally frames failed were is =
-      around tally (after_taking (Ok (payloads.Period frames failed)) more tally)
-      (subst (λ n. GoesTo faults told kept plan answer payload tally
-      (after_taking (Ok (payloads.Period frames failed)) n tally) old new) (taken_is tally)
-      (goes_taking faults told kept plan answer payload tally old new (goes tally) frames failed
-      (were (rises kept state old tally old_core.order)) is))
+    goes : (tally : Tally) → Goes faults told kept plan answer payload tally old new
+    goes tally =
+        board_goes faults told kept state moves exact old new old_core new_order plan answer payload keeps known does
+        knows tally
+
+    pub counted_core : IsCore state kept last
+    counted_core = still_core kept state whole new last leaves new_core
+
+    pub dropped_ends : ((tally : Tally) → HasCounts tally →
+        RisesFrom 0 (clients (comes tally).stage) →
+        AreGone (live_clients old.book.clients.items) (comes tally).stage →
+        (given : List Answer) → WereDropped (comes tally) (ends tally given).after) →
+        ((tally : Tally) → HasCounts tally → GoesTo faults told kept plan answer payload tally
+        (more_dropped more tally) first last)
+        × IsCore state kept last
+    dropped_ends were = dropped_from goes new_core were
+
+    pub counted_reset : (tally : Tally) →
+        (RisesFrom 0 (clients (comes tally).stage) → (given : List Answer) →
+        WereReset (comes tally) (ends tally given).after) →
+        GoesTo faults told kept plan answer payload tally (more_reset more tally) first last
+    counted_reset tally were =
+        around tally (more_reset more tally)
+        (subst (λ n. GoesTo faults told kept plan answer payload tally (more_reset n tally) old new)
+        (taken_is tally (goes tally))
+        (goes_reset faults told kept plan answer payload tally old new (goes tally)
+        (were (rises kept state old tally old_core.order))))
+
+    -- an event that took nothing from the tally
+    pub counted_still : (tally : Tally) →
+        (RisesFrom 0 (clients (comes tally).stage) → (given : List Answer) → [] ≡ (ends tally given).payload →
+        (ends tally given).after.tally ≡ tally) →
+        [] ≡ payload → GoesTo faults told kept plan answer payload tally tally first last
+    counted_still tally stays none =
+        around tally tally
+        (goes_nothing faults told kept plan answer payload tally old new (goes tally)
+        (stays (rises kept state old tally old_core.order)) none)
+
+    pub counted_taking : (tally : Tally) (frames : ℕ) (failed : Bool) →
+        (RisesFrom 0 (clients (comes tally).stage) → (given : List Answer) →
+        to_le_bytes w32 frames ++ (if failed then 1 else 0) ∷ [] ≡ (ends tally given).payload →
+        WereTaken failed (comes tally) (ends tally given).after) →
+        to_le_bytes w32 frames ++ (if failed then 1 else 0) ∷ [] ≡ payload →
+        GoesTo faults told kept plan answer payload tally (after_taking (Ok (payloads.Period frames failed)) more tally)
+        first last
+    counted_taking tally frames failed were is =
+        around tally (after_taking (Ok (payloads.Period frames failed)) more tally)
+        (subst (λ n. GoesTo faults told kept plan answer payload tally
+        (after_taking (Ok (payloads.Period frames failed)) n tally) old new) (taken_is tally (goes tally))
+        (goes_taking faults told kept plan answer payload tally old new (goes tally) frames failed
+        (were (rises kept state old tally old_core.order)) is))

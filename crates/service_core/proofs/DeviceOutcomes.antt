@@ -1,5 +1,5 @@
 -- What device events and a shutdown do to the tally: what the streams that they close had pending is dropped.
-use Rattle.std.proofs.Common.{◌≡◌, ℕ, ◌-◌, ◌&&◌, not, List, [], ◌∷◌, filter, Bool, true, false, Option, Some, None}
+use Rattle.std.proofs.Common.{◌≡◌, ℕ, ◌&&◌, not, List, [], ◌∷◌, filter, Bool, true, false, Option, Some, None}
 use Rattle.std.proofs.Common.{refl, ap, arith, sum_by}
 use Rattle.ca_base.specs.declared.ids.Reason.{Reason}
 use Rattle.ca_base.specs.declared.ids.Reason.TheVariants.{Format, Removal, Shutdown}
@@ -34,7 +34,7 @@ module _ (st : State) (rises : RisesFrom 0 (clients st.stage)) (fits : HasCounts
       closes_count reason (clients_of lost) st.stage st.tally rises fits.dropped (disconnects reason scope st.stage)
       (moves_of_are (closed reason) lost)
 
-  drops_if : (b : Bool) (reason : Reason) (scope : Option ℕ) →
+  pub drops_if : (b : Bool) (reason : Reason) (scope : Option ℕ) →
       WereDropped st (moved (disconnects_if b reason scope st.stage) st)
   drops_if false reason scope = none_dropped st rises fits
   drops_if true reason scope = disconnects_drop reason scope
@@ -52,7 +52,7 @@ module _ (st : State) (rises : RisesFrom 0 (clients st.stage)) (fits : HasCounts
   named_drops None f h = none_dropped st rises fits
   named_drops (Some e) f h = h e
 
-  memory_drops : (o : Outcome) (given : List Answer) → WereDropped st o.after →
+  pub memory_drops : (o : Outcome) (given : List Answer) → WereDropped st o.after →
       WereDropped st (if_found st o given).after
   memory_drops o (out_of_memory ∷ given) h = none_dropped st rises fits
   memory_drops o _ h = h

@@ -27,7 +27,7 @@ disconnects_control : (reason : Reason) (scope : Option ℕ) (st : Stage) →
 disconnects_control reason scope st =
     moves_control reason (filter (λ s. is_within scope s && is_open s) st.streams)
 
-if_control : (b : Bool) (reason : Reason) (scope : Option ℕ) (st : Stage) →
+pub if_control : (b : Bool) (reason : Reason) (scope : Option ℕ) (st : Stage) →
     AllByRecursion IsControl (disconnects_if b reason scope st)
 if_control false reason scope st = tt
 if_control true reason scope st = disconnects_control reason scope st

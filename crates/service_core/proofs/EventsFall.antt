@@ -7,7 +7,7 @@ use Rattle.std.specs.Int.{w32, w64, to_le_bytes}
 use Rattle.ca_base.specs.declared.codes.TheConstants.Hr as hr
 use Rattle.ca_base.specs.declared.ids.Flow.{Flow}
 use Rattle.ca_base.specs.declared.ids.Flow.TheVariants as flow
-use Rattle.ca_base.specs.declared.ids.Reason.TheVariants.{Removal}
+use Rattle.ca_base.specs.declared.ids.Reason.TheVariants.{Override, Removal}
 use Rattle.ca_base.specs.Rows.{first}
 use Rattle.ca_model.specs.declared.event.Event.{Event}
 use Rattle.ca_model.specs.declared.event.Event.TheVariants as event
@@ -17,6 +17,7 @@ use Rattle.wave_format.specs.Format.{spelled}
 use Rattle.device_registry.specs.declared.endpoint.Endpoint.{Endpoint}
 use Rattle.ca_stage.specs.Stage.{Frame, Stage, Stream, frames_waiting}
 use Rattle.ca_stage.specs.Moves.{started, stopped, reset, closed, opened, of_client, Mixing, after_moves, stream_at}
+use Rattle.ca_stage.proofs.Lists.{all-append}
 use Rattle.ca_stage.specs.Given.{frames_given, whole_frames}
 use Rattle.ca_stage.specs.Periods.{captures, open_streams_on, sub_steps}
 use Rattle.session_manager.specs.Sessions.{joined, number_joined, session_at}
@@ -29,9 +30,11 @@ use Rattle.ca_machine.specs.SharedRows.{endpoint_of, with_endpoint}
 use Rattle.ca_machine.specs.Clients.{closes, leaving, hangup_plan, is_client_on, without_connection}
 use Rattle.ca_machine.specs.Endpoints.{default_at, endpoint_named, endpoint_told, number_told}
 use Rattle.ca_machine.specs.Openings.{Opening, endpoint_channels, flow_of, initialized, is_kept, joined_by, new_stream}
+use Rattle.ca_machine.specs.Openings.{takes_over}
 use Rattle.ca_machine.specs.Streams.{position_of, stream_level, supported}
 use Rattle.ca_machine.specs.Openings.{session_key}
-use Rattle.ca_machine.specs.Formats.{is_faulty, matches}
+use Rattle.ca_machine.specs.Devices.{disconnects_if}
+use Rattle.ca_machine.specs.Formats.{admits, is_faulty}
 use Rattle.ca_machine.specs.Streams.{with_handle, with_stream_level}
 use Rattle.ca_machine.specs.Formats.{format_payload}
 use Rattle.ca_machine.specs.Data.{next_packet_size}
@@ -40,7 +43,7 @@ use Rattle.ca_machine.specs.Periods.{after_period, after_recording, mixing_of, p
 use Rattle.ca_machine.specs.Periods.{period_rows, recording, recording_moves, sounding}
 use Rattle.ca_machine.specs.Step.{call_plan, plan}
 use Rattle.ca_machine.proofs.PeriodMoves.{OfSubSteps, captures_all, sub_steps_all}
-use Rattle.service_core.proofs.DevicesFall.{keeps_device, keeps_shutdown}
+use Rattle.service_core.proofs.DevicesFall.{if_control, keeps_device, keeps_shutdown}
 use Rattle.service_core.proofs.PlansFall.{Keeps, Leaves, keeps_memory, keeps_moves, keeps_plain, keeps_still}
 use Rattle.service_core.proofs.PlansFall.{keeps_tells, leaves_unless, of_endpoint, of_number, of_session, of_told}
 use Rattle.service_core.proofs.StreamsFall.{IsControl, AllFell, all_still, all_moved, all_present}
@@ -60,8 +63,11 @@ of_joined : (st : State) (client : Client) (x : Opening) (key : SessionKey) →
     Leaves st (joined_by st client x key)
 of_joined st client x key =
     let after = with_sessions (joined key None (is_kept x.flags) (endpoint_channels st client) (session_list st)) st in
-    all_moved st.stage
-    (opened (new_stream (flow_of after client) client x (number_joined key (session_list st))) ∷ []) (tt, tt)
+    let taken = disconnects_if (takes_over after client x) Override (Some client.endpoint.0) st.stage in
+    let new = opened (new_stream (flow_of after client) client x (number_joined key (session_list st))) ∷ [] in
+    all_moved st.stage (taken ++ new)
+    (all-append IsControl taken new
+    (if_control (takes_over after client x) Override (Some client.endpoint.0) st.stage) (tt, tt))
 
 of_opening : (st : State) (conn : ℕ) (client : Option Client) (x : Opening) → Leaves st (initialized st conn client x)
 of_opening st conn None x = all_still st.stage
@@ -107,27 +113,28 @@ of_recorded e bytes true st after h = by (whole_frames e.format.channels bytes =
     by false = h
 of_recorded e bytes false st after h = h
 
-recording_control : (e : Endpoint) (bytes : List ℕ) (whole : Bool) (st : Stage) →
-    AllByRecursion IsControl (recording_moves e bytes whole st)
-recording_control e bytes true st =
-    fed_control e.no.0 (frames_given (period_frames e) e.format.channels bytes) st
-    (whole_frames e.format.channels bytes == 0)
-recording_control e bytes false st = lost_control (open_streams_on e.no.0 st)
+recording_control : (e : Endpoint) (frames : ℕ) (bytes : List ℕ) (whole : Bool) (st : Stage) →
+    AllByRecursion IsControl (recording_moves e frames bytes whole st)
+recording_control e frames bytes true st =
+    fed_control e.no.0 (frames_given frames e.format.channels bytes) st (whole_frames e.format.channels bytes == 0)
+recording_control e frames bytes false st = lost_control (open_streams_on e.no.0 st)
 
-of_record : (st : State) (e : Endpoint) (given : List Answer) → Leaves st (recording st e given)
-of_record st e given =
+of_record : (st : State) (e : Endpoint) (frames : ℕ) (given : List Answer) → Leaves st (recording st e frames given)
+of_record st e frames given =
     of_recorded e (bytes_given given) (is_whole given) st
-    (moved (recording_moves e (bytes_given given) (is_whole given) st.stage) st)
-    (all_moved st.stage (recording_moves e (bytes_given given) (is_whole given) st.stage)
-    (recording_control e (bytes_given given) (is_whole given) st.stage))
+    (moved (recording_moves e frames (bytes_given given) (is_whole given) st.stage) st)
+    (all_moved st.stage (recording_moves e frames (bytes_given given) (is_whole given) st.stage)
+    (recording_control e frames (bytes_given given) (is_whole given) st.stage))
 
 of_flow : (st : State) (e : Endpoint) (f : Flow) → Keeps st (period_by st e f)
 of_flow st e flow.Render = record {
-  leaves = λ given. leaves_unless st (first (period_rows st e)) (sounding st (mixing_of st e) given)
-      (of_sound st (mixing_of st e) given);
+  leaves = λ given. leaves_unless st (first (period_rows st e (period_frames e st.stage.streams)))
+      (sounding st (mixing_of st e) given) (of_sound st (mixing_of st e) given);
 }
 of_flow st e flow.Capture = record {
-  leaves = λ given. leaves_unless st (first (period_rows st e)) (recording st e given) (of_record st e given);
+  leaves = λ given. leaves_unless st (first (period_rows st e (period_frames e st.stage.streams)))
+      (recording st e (period_frames e st.stage.streams) given)
+      (of_record st e (period_frames e st.stage.streams) given);
 }
 
 of_period : (st : State) (e : Option Endpoint) → Keeps st (period_of st e)
@@ -183,10 +190,10 @@ of_call st conn (call.GetStreamLatency c) control = keeps_tells st _ (stream_at 
 of_call st conn (call.GetCurrentPadding c) control = keeps_tells st _ (stream_at c.0 st.stage)
     (λ s. to_le_bytes w32 (frames_waiting s))
 of_call st conn (call.IsFormatSupported c share format) control =
-    keeps_plain st _ (with_endpoint st (endpoint_of st (client_of conn c.0 st)) (supported st format.list))
-    (of_endpoint st (endpoint_of st (client_of conn c.0 st)) (supported st format.list)
+    keeps_plain st _ (with_endpoint st (endpoint_of st (client_of conn c.0 st)) (supported st share format.list))
+    (of_endpoint st (endpoint_of st (client_of conn c.0 st)) (supported st share format.list)
     (λ e. supported_either st (format_payload e.format)
-    (is_faulty format.list || not (matches e.format (spelled format.list)))))
+    (is_faulty format.list || not (admits share e.format (spelled format.list)))))
 of_call st conn (call.GetMixFormat c) control =
     keeps_plain st _
     (with_endpoint st (endpoint_of st (client_of conn c.0 st)) (λ e. answered st (format_payload e.format)))

@@ -17,6 +17,7 @@ pub mod DataBoards
 pub mod TallyFalls
 pub mod TallyOutcomes
 pub mod DeviceOutcomes
+pub mod OpeningOutcomes
 pub mod TallyStays
 pub mod PendingWords
 pub mod CoreCounts

@@ -1,109 +1,147 @@
 -- The client's side of a stream that is opened, among those of the others.
-use Rattle.std.proofs.Common.{◌≡◌, ℕ, suc, zero, ◌+◌, ◌*◌, ◌≤◌, List, [], ◌∷◌, length, true, Option, Some, None}
-use Rattle.std.proofs.Common.{IfSome, find, arith}
-use Rattle.std.proofs.lemmas.Bool.Decides.{nat_tests}
+use Rattle.std.proofs.Common.{◌≡◌, ℕ, suc, zero, ◌*◌, ◌≤◌, ◌==◌, List, [], ◌∷◌, length, Bool, true, false, Option}
+use Rattle.std.proofs.Common.{Some, None, IfSome, find, arith, cond, refl, sym, ap, subst, ◌∙◌}
+use Rattle.std.specs.Option.{option_map, option_map_or}
+use Rattle.std.specs.List.{AllZip, insert}
 use Rattle.std.proofs.Common.{Result, Ok, Err, IfOk, IfErr}
-use Rattle.std.specs.Option.{option_map_or}
-use Rattle.std.proofs.Common.{refl, sym, ap, subst, ◌∙◌}
-use Rattle.std.specs.List.{All, AllByRecursion, insert}
 use Rattle.ca_base.specs.declared.codes.Hr.{Hr}
+use Rattle.ca_base.specs.declared.ids.ClientNo.{ClientNo}
+use Rattle.ca_base.specs.declared.ids.Reason.TheVariants.{Override}
 use Rattle.ca_base.specs.declared.ids.SessionNo.{SessionNo}
-use Rattle.ca_base.specs.declared.limits.TheConstants.{MAX_STORE_WORDS, SHARED_PERIOD}
-use Rattle.wave_format.specs.Format.{IsValid, frames_of_time, is_listed}
-use Rattle.reply_payload.specs.declared.payload.TheConstants.{REPLY_ROOM}
+use Rattle.ca_base.specs.declared.limits.TheConstants.{MAX_STORE_WORDS}
+use Rattle.reply_payload.specs.declared.payload.Payload.{Payload}
+use Rattle.reply_payload.specs.declared.packets.TheConstants.{MOST_FRAMES}
 use Rattle.buffer_ring.specs.declared.step.EndState.{EndState}
+use Rattle.buffer_ring.specs.declared.step.StoreStep.{StoreStep}
 use Rattle.buffer_ring.specs.Kept.{Kept, state_of}
 use Rattle.client_state.specs.declared.side.ClientSide.{ClientSide}
-use Rattle.ca_stage.specs.Stage.{no_data}
+use Rattle.ca_stage.specs.Stage.{Stream, no_data}
 use Rattle.period_engine.specs.declared.entry.StreamEntry.{StreamEntry}
+use Rattle.period_engine.specs.SubSteps.{Turned}
 use Rattle.service_book.specs.declared.opening.Opening.{Opening as Asked}
 use Rattle.service_book.specs.declared.opening.OpeningPlan.{OpeningPlan}
-use Rattle.service_board.specs.declared.board.Board.{Board}
-use Rattle.reply_payload.specs.declared.payload.Payload.{Payload}
+use Rattle.stream_entries.specs.Closing.{closes_if}
 use Rattle.stream_entries.specs.Search.{is_entry_of}
-use Rattle.service_board.specs.Openings.{Enters, IsNewStore, new_entry}
+use Rattle.service_board.specs.declared.board.Board.{Board}
+use Rattle.service_board.specs.declared.board.NewStream.{NewStream}
+use Rattle.service_board.specs.Openings.{Enters, IsNewStream, new_entry}
 use Rattle.service_core.specs.declared.both_ends.BothEnds.{BothEnds}
-use Rattle.service_core.specs.Core.{AreNewEnds, HasSide, HaveSides, IsFresh, core_data, core_datas, new_side}
-use Rattle.service_core.proofs.CoreSteps.{all_by, each_of}
-use Rattle.service_core.proofs.EntryData.{data_found}
+use Rattle.service_core.specs.Core.{AreNewEnds, HasSide, IsFresh, IsMadeFor, core_data, core_datas, new_side}
+use Rattle.service_core.proofs.EntryData.{data_found, entry_at}
 
--- nothing was used of new ends
-pub new_is_fresh : {F : Type 0} (kept : F → Kept) (plan : OpeningPlan) (ends : BothEnds F) → AreNewEnds kept plan ends →
-    IsFresh kept ends
-new_is_fresh kept plan ends new = record {
-  empty = ap (λ k. k.words) new.store;
-  unleased = ap (λ (s : ClientSide). s.lease) new.side;
-  unreleased = ap (λ (s : ClientSide). s.released) new.side;
-}
+module _ {F : Type 0} (kept : F → Kept) (plan : OpeningPlan) where
+  -- nothing was used of new ends
+  new_is_fresh : (ends : BothEnds F) → AreNewEnds kept plan ends → IsFresh kept ends
+  new_is_fresh ends new = record {
+    empty = ap (λ k. k.words) new.store;
+    unleased = ap (λ (s : ClientSide). s.lease) new.side;
+    unreleased = ap (λ (s : ClientSide). s.released) new.side;
+  }
 
-pub given_is_fresh : {F : Type 0} (kept : F → Kept) (plan : OpeningPlan) (given : Option (BothEnds F)) →
-    IfSome given (AreNewEnds kept plan) → IfSome given (IsFresh kept)
-given_is_fresh kept plan None h = tt
-given_is_fresh kept plan (Some ends) h = new_is_fresh kept plan ends h
+  pub made_ends : (made : Option (NewStream (BothEnds F))) → IfSome made (IsMadeFor kept plan) →
+      IfSome (option_map (λ m. m.store) made) (AreNewEnds kept plan)
+  made_ends None h = tt
+  made_ends (Some made) h = h.ends
 
--- and their store is new at the engine's end
-pub given_is_new : {F : Type 0} (kept : F → Kept) (state : F → EndState) (whole : (x : F) → state_of (kept x) ≡ state x)
-    (plan : OpeningPlan) (given : Option (BothEnds F)) → IfSome given (AreNewEnds kept plan) →
-    IfSome given (IsNewStore (λ ends. state ends.store) plan)
-given_is_new kept state whole plan None h = tt
-given_is_new kept state whole plan (Some ends) h = sym (whole ends.store) ∙ ap state_of h.store
+  pub made_is_fresh : (made : Option (NewStream (BothEnds F))) → IfSome made (IsMadeFor kept plan) →
+      IfSome (option_map (λ m. m.store) made) (IsFresh kept)
+  made_is_fresh None h = tt
+  made_is_fresh (Some made) h = new_is_fresh made.store h.ends
 
--- a packet of a listed rate's period fits a reply
-listed_small : (rate : ℕ) → is_listed rate ≡ true → rate ≤ 192000
-listed_small rate h = grind (arith, nat_tests)
-
-packet_small : (rate : ℕ) → rate ≤ 192000 → 16 + frames_of_time rate SHARED_PERIOD * 8 ≤ REPLY_ROOM
-packet_small rate small = omega arith
+  -- and their store is new at the engine's end
+  pub made_is_new : (state : F → EndState) → ((x : F) → state_of (kept x) ≡ state x) →
+      (made : Option (NewStream (BothEnds F))) → IfSome made (IsMadeFor kept plan) →
+      IfSome made (IsNewStream (λ ends. state ends.store) plan)
+  made_is_new state whole None h = tt
+  made_is_new state whole (Some made) h = record {
+    store = sym (whole made.store.store) ∙ ap state_of h.ends.store;
+    block = h.block;
+  }
 
 -- the side of new ends knows the stream that is opened
 new_has_side : {F : Type 0} (kept : F → Kept) (x : Asked) (plan : OpeningPlan) (session : SessionNo) (store : F)
-    (side : ClientSide) → side ≡ new_side plan → (kept store).words ≡ [] → plan.words ≤ MAX_STORE_WORDS →
-    IsValid plan.format → HasSide kept (new_entry x plan session (record { side = side; store = store }))
-new_has_side {F} kept x plan session store side is empty most valid =
+    (side : ClientSide) → side ≡ new_side plan → (kept store).words ≡ [] → plan.sizes.words ≤ MAX_STORE_WORDS →
+    plan.sizes.period ≤ MOST_FRAMES → HasSide kept (new_entry x plan session (record { side = side; store = store }))
+new_has_side {F} kept x plan session store side is empty most longest =
     subst (λ s. HasSide kept (new_entry x plan session (record { side = s; store = store }))) (sym is) (record {
       side = refl;
       room = λ renders. tt;
-      packed = λ stores. (0, ap length empty ∙ none (frames_of_time plan.format.rate SHARED_PERIOD));
+      packed = λ stores. (0, ap length empty ∙ none plan.sizes.period);
       small = most;
-      reply = packet_small plan.format.rate (listed_small plan.format.rate valid.listed_rate);
+      reply = omega arith;
     })
   where
     none : (period : ℕ) → 0 ≡ 0 * suc period
     none period = omega arith
 
-with_inserted : {A : Type 0} (P : A → Type 0) (at : ℕ) (new : A) (xs : List A) → P new → AllByRecursion P xs →
-    AllByRecursion P (insert xs at new)
-with_inserted P zero new xs h hs = (h, hs)
-with_inserted P (suc at) new [] h hs = (h, tt)
-with_inserted P (suc at) new (x ∷ xs) h hs = (hs.0, with_inserted P at new xs h hs.1)
+-- ---- the new entry is the one that came
 
--- the sides know their streams once one has been opened
-pub sides_entered : {D F : Type 0} (kept : F → Kept) (x : Asked) (plan : OpeningPlan) (given : Option (BothEnds F))
-    (old new : Board D (BothEnds F)) → Enters x plan given old.entries.items new.entries.items →
-    IfSome given (AreNewEnds kept plan) → plan.words ≤ MAX_STORE_WORDS → IsValid plan.format → HaveSides kept old →
-    HaveSides kept new
-sides_entered kept x plan given old new enters ends most valid sides =
-    let made : AreNewEnds kept plan enters.store = subst (λ o. IfSome o (AreNewEnds kept plan)) enters.given_is ends in
-    subst (λ entries. All (HasSide kept) entries) (sym enters.entries)
-    (all_by (HasSide kept) (insert old.entries.items enters.place (new_entry x plan enters.session enters.store))
-    (with_inserted (HasSide kept) enters.place (new_entry x plan enters.session enters.store) old.entries.items
-    (new_has_side kept x plan enters.session enters.store.store enters.store.side made.side
-    (ap (λ k. k.words) made.store) most valid)
-    (each_of (HasSide kept) old.entries.items sides)))
+inserted_found : {E : Type 0} (client at : ℕ) (new e : StreamEntry E) (entries : List (StreamEntry E)) →
+    entry_at client entries ≡ None → entry_at client (insert entries at new) ≡ Some e → new ≡ e
+inserted_found {E} client zero new e entries none found = by (is_entry_of client new) found
+  where
+    by : (b : Bool) → cond b (Some new) (entry_at client entries) ≡ Some e → new ≡ e
+    by true h = cc h
+    by false h = cc (h, none)
+inserted_found {E} client (suc at) new e [] none found = by (is_entry_of client new) found
+  where
+    by : (b : Bool) → cond b (Some new) None ≡ Some e → new ≡ e
+    by true h = cc h
+    by false h = cc h
+inserted_found {E} client (suc at) new e (x ∷ entries) none found =
+    by (inserted_found client at new e entries) (is_entry_of client x) none found
+  where
+    by : (entry_at client entries ≡ None → entry_at client (insert entries at new) ≡ Some e → new ≡ e) → (b : Bool) →
+        cond b (Some x) (entry_at client entries) ≡ None →
+        cond b (Some x) (entry_at client (insert entries at new)) ≡ Some e → new ≡ e
+    by rest true none h = cc none
+    by rest false none h = rest none h
+
+turned_none : {E : Type 0} (moves : E → List StoreStep → E → Type 0) (f : Stream → Stream) (client : ℕ)
+    (old mid : List (StreamEntry E)) → AllZip (Turned moves f) old mid → entry_at client old ≡ None →
+    entry_at client mid ≡ None
+turned_none moves f client [] [] h none = refl
+turned_none {E} moves f client (a ∷ old) (b ∷ mid) h none =
+    by (turned_none moves f client old mid h.1) (is_entry_of client a) (is_entry_of client b)
+    (ap (λ (c : ClientNo). c.0 == client) h.0.same.client) none
+  where
+    by : (entry_at client old ≡ None → entry_at client mid ≡ None) → (was is : Bool) → is ≡ was →
+        cond was (Some a) (entry_at client old) ≡ None → cond is (Some b) (entry_at client mid) ≡ None
+    by rest true is same none = cc none
+    by rest false true same none = cc same
+    by rest false false same none = rest none
+turned_none moves f client [] (b ∷ mid) h none = absurd h
+turned_none moves f client (a ∷ old) [] h none = absurd h
+
+module _ {F : Type 0} (kept : F → Kept) (moves : BothEnds F → List StoreStep → BothEnds F → Type 0) (x : Asked)
+    (plan : OpeningPlan) (given : Option (BothEnds F)) (ends : IfSome given (AreNewEnds kept plan))
+    (most : plan.sizes.words ≤ MAX_STORE_WORDS) (longest : plan.sizes.period ≤ MOST_FRAMES) where
+  entered_side : (old new : List (StreamEntry (BothEnds F))) → Enters moves x plan given old new →
+      (e : StreamEntry (BothEnds F)) → entry_at e.client.0 old ≡ None → entry_at e.client.0 new ≡ Some e →
+      HasSide kept e
+  entered_side old new enters e was is_now =
+      let made : AreNewEnds kept plan enters.store =
+      subst (λ o. IfSome o (AreNewEnds kept plan)) enters.given_is ends in
+      subst (HasSide kept)
+      (inserted_found e.client.0 enters.place (new_entry x plan enters.session enters.store) e enters.mid
+      (turned_none moves (closes_if plan.takes_over Override (Some plan.endpoint.0)) e.client.0 old enters.mid
+      enters.turned was)
+      (ap (entry_at e.client.0) (sym enters.entries) ∙ is_now))
+      (new_has_side kept x plan enters.session enters.store.store enters.store.side made.side
+      (ap (λ k. k.words) made.store) most longest)
+
+  -- whatever an Initialize answers
+  pub came_has_side : {D : Type 0} (old new : Board D (BothEnds F)) (answer : Result Payload Hr) →
+      IfOk answer (λ p. Enters moves x plan given old.entries.items new.entries.items) →
+      IfErr answer (λ code. new ≡ old) → (e : StreamEntry (BothEnds F)) →
+      entry_at e.client.0 old.entries.items ≡ None → entry_at e.client.0 new.entries.items ≡ Some e → HasSide kept e
+  came_has_side old new (Ok p) enters stays e was is_now =
+      entered_side old.entries.items new.entries.items enters e was is_now
+  came_has_side old new (Err code) enters stays e was is_now =
+      absurd (cc (sym was ∙ ap (λ b. entry_at e.client.0 b.entries.items) (sym stays) ∙ is_now))
 
 -- a client that has no entry has no data
 pub no_entry_data : {F : Type 0} (kept : F → Kept) (client : ℕ) (entries : List (StreamEntry (BothEnds F))) →
     find (is_entry_of client) entries ≡ None → core_datas kept entries client ≡ no_data
 no_entry_data kept client entries h =
     data_found kept client entries ∙ ap (λ o. option_map_or (core_data kept) o no_data) h
-
--- the sides know their streams after an Initialize
-pub sides_initialized : {D F : Type 0} (kept : F → Kept) (x : Asked) (plan : OpeningPlan) (given : Option (BothEnds F))
-    (old new : Board D (BothEnds F)) (answer : Result Payload Hr) →
-    IfOk answer (λ p. Enters x plan given old.entries.items new.entries.items) → IfErr answer (λ code. new ≡ old) →
-    IfSome given (AreNewEnds kept plan) → plan.words ≤ MAX_STORE_WORDS → IsValid plan.format → HaveSides kept old →
-    HaveSides kept new
-sides_initialized kept x plan given old new (Ok p) enters stays ends most valid sides =
-    sides_entered kept x plan given old new enters ends most valid sides
-sides_initialized kept x plan given old new (Err code) enters stays ends most valid sides =
-    subst (HaveSides kept) (sym stays) sides

@@ -22,6 +22,7 @@ use Rattle.service_board.specs.InOrder.{Belongs, InOrder}
 use Rattle.service_board.specs.declared.board.Board.{Board}
 use Rattle.service_core.specs.Core.{HasSide, HaveSides, IsLooked, LooksAround, core_data, core_datas, core_state}
 use Rattle.service_core.specs.declared.both_ends.BothEnds.{BothEnds}
+use Rattle.service_board.proofs.AlikeEntries.{IsKept, kept_alike}
 use Rattle.service_board.proofs.StreamMoves.{belongs_kept}
 use Rattle.service_core.proofs.EntryData.{data_found, each_entry, entry_at}
 use Rattle.service_core.proofs.DataEntries.{looked_rested, looked_side, looked_stream, same_but_store}
@@ -101,6 +102,20 @@ module _ {F : Type 0} (kept : F → Kept) where
   each_looked P keeps [] (y ∷ ys) h all = absurd h
   each_looked P keeps (x ∷ xs) [] h all = absurd h
 
+  all_kept : (xs ys : List (StreamEntry (BothEnds F))) → AllZip (IsLooked kept) xs ys → AllZip IsKept xs ys
+  all_kept [] [] h = tt
+  all_kept (a ∷ xs) (b ∷ ys) h = (
+    record {
+      endpoint = ap (λ e. e.endpoint.0) h.0.same;
+      exclusive = ap (λ e. e.exclusive) h.0.same;
+      period = ap (λ e. e.period) h.0.same;
+      opens = λ opens. sym (ap (λ e. e.gate) h.0.same) ∙ opens;
+    },
+    all_kept xs ys h.1,
+  )
+  all_kept [] (b ∷ ys) h = absurd h
+  all_kept (a ∷ xs) [] h = absurd h
+
   same_clients : (xs ys : List (StreamEntry (BothEnds F))) → AllZip (IsLooked kept) xs ys →
       map (λ e. e.client.0) ys ≡ map (λ e. e.client.0) xs
   same_clients [] [] h = refl
@@ -147,6 +162,8 @@ module _ {F : Type 0} (kept : F → Kept) where
               (λ a b looked rested. looked_rested kept state whole a b looked rested) old.entries.items
               new.entries.items
               around.looked order.rested;
+          alike = kept_alike old.entries.items new.entries.items
+              (all_kept old.entries.items new.entries.items around.looked) order.alike;
           belong = each_looked (Belongs old.book old.seats.items)
               (λ a b looked here. belongs_kept old.book old.seats.items a b (same_but_store a b looked.same)
               (λ opens. sym (ap (λ e. e.gate) looked.same) ∙ opens) (before a b looked) (counted a b looked) here)

@@ -41,14 +41,14 @@ module _ {D F : Type 0} (faults : D → ℕ) (told : D → Option (List DeviceLo
       (after_taking answer more tally) first last
   period_counts (Err code) does plays tally fits =
       counted_still faults told kept state whole moves exact first old new last enters leaves core new_order before
-      more counts is_more AnyData (λ st. period_plan st e.0) code (payload_of (Err code)) does tt
+      more counts is_more (λ st. period_plan st e.0) code (payload_of (Err code)) AnyData does tt
       (λ st. keeps_event st (event.Period e) tt) tally
       (λ rise. period_nothing (core_state kept tally old) rise fits e.0)
       refl
   period_counts (Ok (payload.Period frames failed)) does plays tally fits =
       counted_taking faults told kept state whole moves exact first old new last enters leaves core new_order before
-      more counts is_more AnyData (λ st. period_plan st e.0)
-      (code_of (Ok (payload.Period frames failed))) (payload_of (Ok (payload.Period frames failed))) does tt
+      more counts is_more (λ st. period_plan st e.0) (code_of (Ok (payload.Period frames failed)))
+      (payload_of (Ok (payload.Period frames failed))) AnyData does tt
       (λ st. keeps_event st (event.Period e) tt) tally frames failed
       (λ rise given. period_outcome (core_state kept tally old) rise fits e.0 given frames failed)
       refl

@@ -91,20 +91,25 @@ module _ (st : State) (given : List Answer) where
   flow_whole : (d : Endpoint) (f : Flow) → AreAnswers (asked_of (period_by st d f)) given →
       [] ≡ (outcome_of st (period_by st d f) given).payload → is_whole given ≡ true
   flow_whole d flow.Render a e =
-      none_failed (period_by st d flow.Render).asks (sounding st (mixing_of st d) given) (period_frames d) refl
-      (first (period_rows st d)) a e
+      none_failed (period_by st d flow.Render).asks (sounding st (mixing_of st d) given)
+      (period_frames d st.stage.streams) refl (first (period_rows st d (period_frames d st.stage.streams))) a e
   flow_whole d flow.Capture a e =
-      none_failed (period_by st d flow.Capture).asks (recording st d given)
-      (frames_recorded d (bytes_given given)) refl (first (period_rows st d)) a e
+      none_failed (period_by st d flow.Capture).asks
+      (recording st d (period_frames d st.stage.streams) given)
+      (frames_recorded d (period_frames d st.stage.streams) (bytes_given given)) refl
+      (first (period_rows st d (period_frames d st.stage.streams))) a e
 
   flow_failed : (d : Endpoint) (f : Flow) (frames : ℕ) (failed : Bool) →
       answer_bytes frames failed ≡ (outcome_of st (period_by st d f) given).payload → failed ≡ not (is_whole given)
   flow_failed d flow.Render frames failed e =
-      says_failed (period_by st d flow.Render).asks (sounding st (mixing_of st d) given) (period_frames d) refl
-      (first (period_rows st d)) frames failed e
+      says_failed (period_by st d flow.Render).asks (sounding st (mixing_of st d) given)
+      (period_frames d st.stage.streams) refl (first (period_rows st d (period_frames d st.stage.streams))) frames
+      failed e
   flow_failed d flow.Capture frames failed e =
-      says_failed (period_by st d flow.Capture).asks (recording st d given)
-      (frames_recorded d (bytes_given given)) refl (first (period_rows st d)) frames failed e
+      says_failed (period_by st d flow.Capture).asks
+      (recording st d (period_frames d st.stage.streams) given)
+      (frames_recorded d (period_frames d st.stage.streams) (bytes_given given)) refl
+      (first (period_rows st d (period_frames d st.stage.streams))) frames failed e
 
   nothing_whole : (o : Option Endpoint) → AreAnswers (asked_of (period_of st o)) given →
       [] ≡ (outcome_of st (period_of st o) given).payload → is_whole given ≡ true

@@ -150,27 +150,31 @@ failed_counts m st t r l =
 
 -- ---- a period of an endpoint that captures
 
-fed_falls : (e : Endpoint) (bytes : List ℕ) (s : Stream) → open_pads (fed_by e bytes s) ≡ open_pads s
-fed_falls e bytes s = by (whole_frames e.format.channels bytes == 0)
+fed_falls : (e : Endpoint) (frames : ℕ) (bytes : List ℕ) (s : Stream) →
+    open_pads (fed_by e frames bytes s) ≡ open_pads s
+fed_falls e frames bytes s = by (whole_frames e.format.channels bytes == 0)
   where
-    by : (b : Bool) → open_pads (if b then s else fed_if (is_recording e.no.0) (frames_of e bytes) s) ≡ open_pads s
+    by : (b : Bool) →
+        open_pads (if b then s else fed_if (is_recording e.no.0) (frames_of e frames bytes) s) ≡ open_pads s
     by true = refl
-    by false = fed_pads (is_recording e.no.0) (frames_of e bytes) s
+    by false = fed_pads (is_recording e.no.0) (frames_of e frames bytes) s
 
 -- what it offers takes nothing from what is pending
-pub recorded_counts : (e : Endpoint) (bytes : List ℕ) (st : Stage) (t : Tally) → RisesFrom 0 (clients st) →
-    t.rendered ≤ MAX_TALLY → tally_after t st (recording_moves e bytes true st) ≡ record t {
-      rendered =
-          counted t.rendered (open_padding st - open_padding (after_moves st (recording_moves e bytes true st)));
+pub recorded_counts : (e : Endpoint) (frames : ℕ) (bytes : List ℕ) (st : Stage) (t : Tally) →
+    RisesFrom 0 (clients st) → t.rendered ≤ MAX_TALLY →
+    tally_after t st (recording_moves e frames bytes true st) ≡ record t {
+      rendered = counted t.rendered
+          (open_padding st - open_padding (after_moves st (recording_moves e frames bytes true st)));
     }
-recorded_counts e bytes st t r l =
-    let same : open_padding (after_moves st (recording_moves e bytes true st)) ≡ open_padding st =
-    ap open_padding (recorded_stage e bytes st r true)
-    ∙ sum_map open_pads (fed_by e bytes) st.streams
-    ∙ sum_alike (λ s. open_pads (fed_by e bytes s)) open_pads st.streams (all_of _ (fed_falls e bytes) st.streams) in
-    let none : open_padding st - open_padding (after_moves st (recording_moves e bytes true st)) ≡ 0 =
+recorded_counts e frames bytes st t r l =
+    let same : open_padding (after_moves st (recording_moves e frames bytes true st)) ≡ open_padding st =
+    ap open_padding (recorded_stage e frames bytes st r true)
+    ∙ sum_map open_pads (fed_by e frames bytes) st.streams
+    ∙ sum_alike (λ s. open_pads (fed_by e frames bytes s)) open_pads st.streams
+    (all_of _ (fed_falls e frames bytes) st.streams) in
+    let none : open_padding st - open_padding (after_moves st (recording_moves e frames bytes true st)) ≡ 0 =
     omega (arith, same) in
-    tally_recorded e bytes st t ∙ ap (λ k. record t { rendered = k }) (counted_none t.rendered l none)
+    tally_recorded e frames bytes st t ∙ ap (λ k. record t { rendered = k }) (counted_none t.rendered l none)
 
 lost_falls : (number : ℕ) (s : Stream) →
     open_pads (lost_on number s) + amount_where (is_open_on number) padding s ≡ open_pads s
@@ -178,15 +182,16 @@ lost_falls number s =
     empties_where (is_open_on number) (closed Removal)
     (λ s t. (and_parts (s.endpoint == number) (is_open s) t).1) (λ s. refl) s
 
-pub lost_counts : (e : Endpoint) (bytes : List ℕ) (st : Stage) (t : Tally) → RisesFrom 0 (clients st) →
-    t.dropped ≤ MAX_TALLY → tally_after t st (recording_moves e bytes false st) ≡ record t {
-      dropped = counted t.dropped (open_padding st - open_padding (after_moves st (recording_moves e bytes false st)));
+pub lost_counts : (e : Endpoint) (frames : ℕ) (bytes : List ℕ) (st : Stage) (t : Tally) → RisesFrom 0 (clients st) →
+    t.dropped ≤ MAX_TALLY → tally_after t st (recording_moves e frames bytes false st) ≡ record t {
+      dropped = counted t.dropped
+          (open_padding st - open_padding (after_moves st (recording_moves e frames bytes false st)));
     }
-lost_counts e bytes st t r l =
-    tally_lost e bytes st r t l
+lost_counts e frames bytes st t r l =
+    tally_lost e frames bytes st r t l
     ∙ ap (λ k. record t { dropped = counted t.dropped k })
     (fall_by (lost_on e.no.0) (amount_where (is_open_on e.no.0) padding) (lost_falls e.no.0) st.streams
-    ∙ ap (λ after. open_padding st - open_padding after) (sym (recorded_stage e bytes st r false)))
+    ∙ ap (λ after. open_padding st - open_padding after) (sym (recorded_stage e frames bytes st r false)))
 
 -- ---- clients that leave
 

@@ -141,20 +141,21 @@ module _ (st : State) (rises : RisesFrom 0 (clients st.stage)) (fits : HasCounts
   sounds m true = whole_counts m st.stage st.tally rises fits.rendered
   sounds m false = failed_counts m st.stage st.tally rises fits.dropped
 
-  records : (e : Endpoint) (bytes : List ℕ) (whole : Bool) →
-      WereTaken (not whole) st (after_recording e bytes whole (moved (recording_moves e bytes whole st.stage) st))
-  records e bytes true =
+  records : (e : Endpoint) (frames : ℕ) (bytes : List ℕ) (whole : Bool) →
+      WereTaken (not whole) st
+      (after_recording e bytes whole (moved (recording_moves e frames bytes whole st.stage) st))
+  records e frames bytes true =
       signaled (whole_frames e.format.channels bytes == 0)
-      (recorded_counts e bytes st.stage st.tally rises fits.rendered)
+      (recorded_counts e frames bytes st.stage st.tally rises fits.rendered)
     where
       after : State
-      after = moved (recording_moves e bytes true st.stage) st
+      after = moved (recording_moves e frames bytes true st.stage) st
 
       signaled : (b : Bool) → WereTaken false st after →
           WereTaken false st (if b then after else after_period e.no.0 true after)
       signaled true h = h
       signaled false h = h
-  records e bytes false = lost_counts e bytes st.stage st.tally rises fits.dropped
+  records e frames bytes false = lost_counts e frames bytes st.stage st.tally rises fits.dropped
 
   -- an outcome whose payload is that of a period of so many frames
   module _ (o : Outcome) (n : ℕ) (whole : Bool) (pays : o.payload ≡ period_payload n whole) where
@@ -182,11 +183,14 @@ module _ (st : State) (rises : RisesFrom 0 (clients st.stage)) (fits : HasCounts
       to_le_bytes w32 frames ++ (if failed then 1 else 0) ∷ [] ≡ (outcome_of st (period_by st d f) given).payload →
       WereTaken failed st (outcome_of st (period_by st d f) given).after
   of_flow d flow.Render given frames failed e =
-      period_unless (sounding st (mixing_of st d) given) (period_frames d) (is_whole given) refl
-      (sounds (mixing_of st d) (is_whole given)) (first (period_rows st d)) frames failed e
+      period_unless (sounding st (mixing_of st d) given) (period_frames d st.stage.streams) (is_whole given) refl
+      (sounds (mixing_of st d) (is_whole given))
+      (first (period_rows st d (period_frames d st.stage.streams))) frames failed e
   of_flow d flow.Capture given frames failed e =
-      period_unless (recording st d given) (frames_recorded d (bytes_given given)) (is_whole given) refl
-      (records d (bytes_given given) (is_whole given)) (first (period_rows st d)) frames failed e
+      period_unless (recording st d (period_frames d st.stage.streams) given)
+      (frames_recorded d (period_frames d st.stage.streams) (bytes_given given)) (is_whole given) refl
+      (records d (period_frames d st.stage.streams) (bytes_given given) (is_whole given))
+      (first (period_rows st d (period_frames d st.stage.streams))) frames failed e
 
   of_endpoint : (e : Option Endpoint) (given : List Answer) (frames : ℕ) (failed : Bool) →
       to_le_bytes w32 frames ++ (if failed then 1 else 0) ∷ [] ≡ (outcome_of st (period_of st e) given).payload →
@@ -215,11 +219,12 @@ module _ (st : State) (rises : RisesFrom 0 (clients st.stage)) (fits : HasCounts
           [] ≡ (outcome_of st (period_by st d f) given).payload →
           (outcome_of st (period_by st d f) given).after.tally ≡ st.tally
       by_flow d flow.Render given e =
-          nothing_unless (sounding st (mixing_of st d) given) (period_frames d) (is_whole given) refl
-          (first (period_rows st d)) e
+          nothing_unless (sounding st (mixing_of st d) given) (period_frames d st.stage.streams) (is_whole given)
+          refl (first (period_rows st d (period_frames d st.stage.streams))) e
       by_flow d flow.Capture given e =
-          nothing_unless (recording st d given) (frames_recorded d (bytes_given given)) (is_whole given) refl
-          (first (period_rows st d)) e
+          nothing_unless (recording st d (period_frames d st.stage.streams) given)
+          (frames_recorded d (period_frames d st.stage.streams) (bytes_given given)) (is_whole given) refl
+          (first (period_rows st d (period_frames d st.stage.streams))) e
 
       of_none : (o : Option Endpoint) (given : List Answer) → [] ≡ (outcome_of st (period_of st o) given).payload →
           (outcome_of st (period_of st o) given).after.tally ≡ st.tally

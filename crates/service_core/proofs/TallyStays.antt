@@ -13,7 +13,6 @@ use Rattle.ca_stage.specs.Tally.{Tally, tally_of_found, tally_of_stream}
 use Rattle.device_registry.specs.declared.endpoint.Endpoint.{Endpoint}
 use Rattle.session_manager.specs.declared.session.Session.{Session}
 use Rattle.session_manager.specs.Sessions.{session_at}
-use Rattle.ca_machine.specs.declared.state.Client.{Client}
 use Rattle.ca_machine.specs.State.{State, client_of, endpoint_at}
 use Rattle.ca_machine.specs.Plan.{Outcome, Plan, Answer, answered, granted, if_found, outcome_of, plain, unless_refused}
 use Rattle.ca_machine.specs.Plan.{with_memory}
@@ -24,8 +23,7 @@ use Rattle.ca_machine.specs.Endpoints.{default_at, device_info_plan, endpoint_na
 use Rattle.ca_machine.specs.Endpoints.{number_told}
 use Rattle.ca_machine.specs.Registrations.{take_notices_plan}
 use Rattle.ca_machine.specs.Streams.{supported}
-use Rattle.ca_machine.specs.Openings.{Opening, initialize_plan, initialized}
-use Rattle.ca_machine.specs.Formats.{is_faulty, matches}
+use Rattle.ca_machine.specs.Formats.{admits, is_faulty}
 use Rattle.ca_machine.specs.Streams.{with_handle, with_stream_level}
 use Rattle.ca_machine.specs.Formats.{format_payload}
 use Rattle.ca_machine.specs.Sessions.{enum_sessions_plan, get_session_plan, session_payload, state_of_session}
@@ -95,10 +93,6 @@ moves st rows s client payload m mute =
     (of_stream st s (λ s. granted (payload s) (of_client client (m s) ∷ []) st)
     (λ s. mute_found client (m s) (mute s) (stream_at client st.stage) st.tally))
 
-of_opening : (st : State) (conn : ℕ) (client : Option Client) (x : Opening) → Leaves st (initialized st conn client x)
-of_opening st conn None x = refl
-of_opening st conn (Some client) x = refl
-
 of_session : (st : State) (s : Option Session) (f : Session → Outcome) → ((s : Session) → Leaves st (f s)) →
     Leaves st (with_session st s f)
 of_session st None f h = refl
@@ -144,10 +138,10 @@ tally_of_call st conn (call.GetBufferSize c) h = tells st _ (stream_at c.0 st.st
 tally_of_call st conn (call.GetStreamLatency c) h = tells st _ (stream_at c.0 st.stage) _
 tally_of_call st conn (call.GetCurrentPadding c) h = absurd h
 tally_of_call st conn (call.IsFormatSupported c share format) h =
-    of_plain st _ (with_endpoint st (endpoint_of st (client_of conn c.0 st)) (supported st format.list))
-    (of_endpoint st (endpoint_of st (client_of conn c.0 st)) (supported st format.list)
+    of_plain st _ (with_endpoint st (endpoint_of st (client_of conn c.0 st)) (supported st share format.list))
+    (of_endpoint st (endpoint_of st (client_of conn c.0 st)) (supported st share format.list)
     (λ e. of_supported st (format_payload e.format)
-    (is_faulty format.list || not (matches e.format (spelled format.list)))))
+    (is_faulty format.list || not (admits share e.format (spelled format.list)))))
 tally_of_call st conn (call.GetMixFormat c) h =
     of_plain st _ (with_endpoint st (endpoint_of st (client_of conn c.0 st))
     (λ e. answered st (format_payload e.format)))
@@ -181,10 +175,6 @@ tally_of_call st conn (call.SetGrouping s grouping context) h = of_plain st _ _ 
 tally_of_call st conn (call.Other code rest) h = of_plain st _ _ refl
 
 -- the others, but those that give frames a fate
-pub tally_of_initialize : (st : State) (conn client : ℕ) (x : Opening) →
-    LeavesTally st (initialize_plan st conn client x)
-tally_of_initialize st conn client x = of_memory st _ _ (of_opening st conn (client_of conn client st) x)
-
 pub tally_of_padding : (st : State) (conn client : ℕ) → LeavesTally st
     (call_plan st conn (call.GetCurrentPadding (record { 0 = client })))
 tally_of_padding st conn client = tells st _ (stream_at client st.stage) _

@@ -28,8 +28,7 @@ use Rattle.std.specs.Vec.{vec_capacity}
 use Rattle.device_io.specs.DeviceLog.{DeviceLog}
 use Rattle.ca_base.specs.declared.codes.Hr.{Hr}
 use Rattle.ca_base.specs.declared.ids.Seen.{Seen}
-use Rattle.ca_base.specs.declared.limits.TheConstants.{MAX_STORE_WORDS, SHARED_PERIOD}
-use Rattle.wave_format.specs.Format.{frames_of_time}
+use Rattle.ca_base.specs.declared.limits.TheConstants.{MAX_STORE_WORDS}
 use Rattle.buffer_ring.specs.Kept.{Kept, new_store}
 use Rattle.client_state.specs.declared.side.ClientSide.{ClientSide}
 use Rattle.client_state.specs.Frames.{frames_in}
@@ -46,7 +45,9 @@ use Rattle.period_engine.specs.Packed.{packets_in}
 use Rattle.reply_payload.specs.declared.payload.TheConstants.{REPLY_ROOM}
 use Rattle.service_book.specs.declared.opening.OpeningPlan.{OpeningPlan}
 use Rattle.service_board.specs.Board.{state_of}
+use Rattle.service_board.specs.Openings.{IsNewBlock}
 use Rattle.service_board.specs.declared.board.Board.{Board}
+use Rattle.service_board.specs.declared.board.NewStream.{NewStream}
 use Rattle.service_core.specs.Putting.{TookMore}
 use Rattle.service_core.specs.declared.both_ends.BothEnds.{BothEnds}
 use Rattle.service_core.specs.declared.pending.Streams.{Streams}
@@ -164,11 +165,11 @@ GoesTo faults told kept plan result payload before after old new =
 abbrev pub new_side : OpeningPlan → ClientSide
 new_side plan = record {
   dir = dir_of plan.kind;
-  exclusive = false;
+  exclusive = plan.exclusive;
   event = plan.event;
-  buffer = plan.buffer;
-  period = frames_of_time plan.format.rate SHARED_PERIOD;
-  store_frames = plan.words;
+  buffer = plan.sizes.buffer;
+  period = plan.sizes.period;
+  store_frames = plan.sizes.words;
   block = plan.format.channels * 2;
   lease = None;
   released = 0;
@@ -177,4 +178,9 @@ new_side plan = record {
 -- both ends of a stream that is opened by this plan
 pub record AreNewEnds {F : Type 0} (kept : F → Kept) (plan : OpeningPlan) (ends : BothEnds F) : Type 0 where
   pub side : ends.side ≡ new_side plan
-  pub store : kept ends.store ≡ new_store plan.words (dir_of plan.kind)
+  pub store : kept ends.store ≡ new_store plan.sizes.words (dir_of plan.kind)
+
+-- and the scratch for its endpoint's periods, if that was planned
+pub record IsMadeFor {F : Type 0} (kept : F → Kept) (plan : OpeningPlan) (made : NewStream (BothEnds F)) : Type 0 where
+  pub ends : AreNewEnds kept plan made.store
+  pub block : IsNewBlock plan.scratch plan.format.channels made.block

@@ -13,12 +13,12 @@ ghost use Rattle.service_core.specs.Service.{AnswersPlan};
 
 use crate::Core;
 use crate::counting::{
-    counted_device, counted_hangup, counted_release, counted_reset, counted_shutdown,
+    counted_device, counted_hangup, counted_initialize, counted_release, counted_reset,
+    counted_shutdown,
 };
 use crate::data::{
     capture_release_buffer, get_buffer, get_current_padding, get_next_packet_size, release_buffer,
 };
-use crate::new_ends::new_ends;
 use buffer_ring::FrameStore;
 use ca_base::{ClientNo, ConnNo, Hr, Text};
 use ca_model::{Call, DeviceEvent};
@@ -65,14 +65,14 @@ impl<D: Devices, F: FrameStore> Core<D, F> {
         answer
     }
 
-    /// IAudioClient::Initialize. The store of the stream is made last, so that no refusal takes memory.
+    /// IAudioClient::Initialize.
     fn initialize(&mut self, x: &Opening) -> Result<Payload, Hr>
         ensures { AnswersPlan D.faults D.told (opening_plan x.now) (code_of result) (payload_of result)
             self.old self.new }
     {
-        let plan = self.board.plan_initialize(x)?;
-        let ends = new_ends(self.alloc, &plan);
-        self.board.initialize(x, &plan, ends)
+        let (answer, dropped) = counted_initialize(&mut self.board, self.alloc, x);
+        self.tally.add_dropped(dropped);
+        answer
     }
 
     /// IAudioClient::GetCurrentPadding.

@@ -12,11 +12,13 @@ ghost use Rattle.reply_payload.specs.Answers.{IsPeriod, code_of, payload_of};
 ghost use Rattle.service_board.specs.InOrder.{InOrder};
 ghost use Rattle.service_board.specs.Telling.{NotesFailure};
 ghost use Rattle.service_core.specs.Counting.{HasCounts, after_taking, more_dropped, more_reset};
+ghost use Rattle.service_book.specs.Openings.{opening_plan};
 ghost use Rattle.service_core.specs.Core.{GoesTo, LooksAround, core_datas, words_in};
 ghost use Rattle.service_core.specs.Service.{IsCore};
 ghost use Rattle.service_core.specs.declared.pending.Streams.TheVariants as streams;
 
 use crate::BothEnds;
+use crate::new_streams::initialize;
 use crate::pending::{Streams, pending};
 use buffer_ring::FrameStore;
 use ca_base::{ClientNo, ConnNo, EndpointNo, Hr};
@@ -24,6 +26,7 @@ use ca_model::DeviceEvent;
 use device_io::Devices;
 use reply_payload::Payload;
 use service_board::Board;
+use service_book::Opening;
 use std::alloc::Global;
 
 /// Whether a client has leased frames.
@@ -94,6 +97,23 @@ pub fn counted_hangup<D: Devices, F: FrameStore>(
 {
     let before = pending(board, Streams::Open);
     let answer = board.hangup(conn);
+    (answer, fewer_than(before, board))
+}
+
+/// IAudioClient::Initialize; and how many frames were dropped, of streams that it takes the endpoint from.
+pub fn counted_initialize<D: Devices, F: FrameStore>(
+    board: &mut Board<D, BothEnds<F>>,
+    alloc: Global,
+    x: &Opening,
+) -> (Result<Payload, Hr>, u64)
+    requires { IsCore F.state F.kept board.old }
+    ensures goes { (tally : Tally) → HasCounts tally → GoesTo D.faults D.told F.kept
+        (opening_plan x.now) (code_of result.0) (payload_of result.0) tally
+        (more_dropped result.1 tally) board.old board.new }
+    ensures core { IsCore F.state F.kept board.new }
+{
+    let before = pending(board, Streams::Open);
+    let answer = initialize(board, alloc, x);
     (answer, fewer_than(before, board))
 }
 

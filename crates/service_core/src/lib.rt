@@ -6,7 +6,7 @@ mod control;
 mod counting;
 mod data;
 mod desk;
-mod new_ends;
+mod new_streams;
 mod packets;
 mod pending;
 mod putting;

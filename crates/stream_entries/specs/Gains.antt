@@ -5,7 +5,7 @@ use Rattle.volume_stack.specs.Scaling.{unit_gain}
 use Rattle.session_manager.specs.Sessions.{session_at}
 use Rattle.ca_machine.specs.declared.state.Client.{Client}
 use Rattle.period_engine.specs.declared.entry.StreamEntry.{StreamEntry}
-use Rattle.service_book.specs.Gains.{gains_by}
+use Rattle.service_book.specs.Gains.{gains_if}
 use Rattle.service_book.specs.declared.book.Book.{Book}
 
 -- an entry's client is live
@@ -18,4 +18,4 @@ pub record Regains {E : Type 0} (book : Book) (a b : StreamEntry E) : Type 0 whe
   pub same : b ≡ record a { gains = b.gains }
   pub within : All (λ gain. gain ≤ unit_gain) b.gains
   pub gains : (c : Client) → find (λ c. c.client.0 == a.client.0) book.clients.items ≡ Some c →
-      b.gains ≡ gains_by c.levels (session_at a.session.0 book.sessions.list)
+      b.gains ≡ gains_if a.exclusive c.levels (session_at a.session.0 book.sessions.list)

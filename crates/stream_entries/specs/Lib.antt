@@ -4,3 +4,4 @@ pub mod Events
 pub mod Gains
 pub mod Leaving
 pub mod Noting
+pub mod Holding

@@ -6,7 +6,7 @@ ghost use Rattle.service_book.specs.InOrder.{HasLevels};
 ghost use Rattle.stream_entries.specs.Gains.{HasClient, Regains};
 
 use period_engine::StreamEntry;
-use service_book::{Book, gains_in};
+use service_book::{Book, gains_if};
 
 /// The gains of a stream's channels, by its client's levels and its session.
 fn gains_of<E>(book: &Book, entry: &StreamEntry<E>) -> [u32; 4]
@@ -17,7 +17,8 @@ fn gains_of<E>(book: &Book, entry: &StreamEntry<E>) -> [u32; 4]
     let Some(place) = book.live_place(entry.client) else {
         unreachable!();
     };
-    gains_in(
+    gains_if(
+        entry.exclusive,
         &book.clients[place].levels,
         book.sessions.get(entry.session),
     )

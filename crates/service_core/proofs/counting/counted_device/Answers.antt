@@ -21,8 +21,8 @@ returns g c =
     g.met.F.FrameStore.whole g.F.EngineSide.moves g.met.F.FrameStore.exact c.args.board.now c.pending-before.new.board
     c.device-answer.new.self c.fewer_than.new.board c.pending-before.ensures.looked c.fewer_than.ensures.looked
     c.requires c.device-answer.ensures.order c.pending-before.result c.fewer_than.result
-    c.pending-before.ensures.count c.fewer_than.ensures.fewer (AnyData)
-    (λ st. device_plan st c.args.event.now) (code_of c.device-answer.result) (payload_of c.device-answer.result)
+    c.pending-before.ensures.count c.fewer_than.ensures.fewer
+    (λ st. device_plan st c.args.event.now) (code_of c.device-answer.result) (payload_of c.device-answer.result) AnyData
     c.device-answer.ensures.does
     (tt) (λ st. keeps_device st c.args.event.now)
     (λ tally fits rise gone. device_outcome (core_state g.F.FrameStore.kept tally c.pending-before.new.board) rise fits

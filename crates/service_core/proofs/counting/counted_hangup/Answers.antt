@@ -22,10 +22,11 @@ returns g c =
     g.met.F.FrameStore.whole g.F.EngineSide.moves g.met.F.FrameStore.exact c.args.board.now c.pending-before.new.board
     c.hangup-answer.new.self c.fewer_than.new.board c.pending-before.ensures.looked c.fewer_than.ensures.looked
     c.requires c.hangup-answer.ensures.order c.pending-before.result c.fewer_than.result
-    c.pending-before.ensures.count c.fewer_than.ensures.fewer (AnyData)
-    (λ st. hangup_plan st c.args.conn.0) (code_of c.hangup-answer.result) (payload_of c.hangup-answer.result)
+    c.pending-before.ensures.count c.fewer_than.ensures.fewer
+    (λ st. hangup_plan st c.args.conn.0) (code_of c.hangup-answer.result) (payload_of c.hangup-answer.result) AnyData
     c.hangup-answer.ensures.does
     (tt) (λ st. keeps_event st (event.Hangup c.args.conn) tt)
-    (λ tally fits rise gone. hangup_outcome (core_state g.F.FrameStore.kept tally c.pending-before.new.board) rise fits gone
+    (λ tally fits rise gone. hangup_outcome (core_state g.F.FrameStore.kept tally c.pending-before.new.board) rise fits
+    gone
     c.args.conn.0) in
     record { goes = ends.0; core = ends.1 }

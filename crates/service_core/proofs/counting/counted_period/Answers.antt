@@ -24,8 +24,8 @@ returns-clause-core g c =
     g.met.F.FrameStore.whole g.F.EngineSide.moves g.met.F.FrameStore.exact c.args.board.now c.pending-before.new.board
     c.period-answer.new.self c.fewer_than.new.board c.pending-before.ensures.looked c.fewer_than.ensures.looked
     c.requires c.period-answer.ensures.order c.pending-before.result c.fewer_than.result
-    c.pending-before.ensures.count c.fewer_than.ensures.fewer (AnyData)
-    (λ st. period_plan st c.args.e.0) (code_of c.period-answer.result) (payload_of c.period-answer.result)
+    c.pending-before.ensures.count c.fewer_than.ensures.fewer
+    (λ st. period_plan st c.args.e.0) (code_of c.period-answer.result) (payload_of c.period-answer.result) AnyData
     c.period-answer.ensures.does
     (tt) (λ st. keeps_event st (event.Period c.args.e) tt)
 

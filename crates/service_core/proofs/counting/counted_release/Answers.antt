@@ -23,10 +23,12 @@ returns g c =
     g.met.F.FrameStore.whole g.F.EngineSide.moves g.met.F.FrameStore.exact c.args.board.now c.pending-before.new.board
     c.release-answer.new.self c.fewer_than.new.board c.pending-before.ensures.looked c.fewer_than.ensures.looked
     c.requires c.release-answer.ensures.order c.pending-before.result c.fewer_than.result
-    c.pending-before.ensures.count c.fewer_than.ensures.fewer (AnyData)
+    c.pending-before.ensures.count c.fewer_than.ensures.fewer
     (λ st. release_plan st c.args.conn.0 c.args.client.0) (code_of c.release-answer.result)
-    (payload_of c.release-answer.result) c.release-answer.ensures.does
+    (payload_of c.release-answer.result) AnyData
+    c.release-answer.ensures.does
     (tt) (λ st. keeps_event st (event.Call c.args.conn 0 (call.Release c.args.client)) tt)
-    (λ tally fits rise gone. release_outcome (core_state g.F.FrameStore.kept tally c.pending-before.new.board) rise fits gone
+    (λ tally fits rise gone. release_outcome (core_state g.F.FrameStore.kept tally c.pending-before.new.board) rise fits
+    gone
     c.args.conn.0 c.args.client.0) in
     record { goes = ends.0; core = ends.1 }

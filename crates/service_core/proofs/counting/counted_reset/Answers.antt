@@ -30,9 +30,10 @@ returns-clause-core g c =
     c.reset-answer.new.self c.fewer_than.new.board c.pending-before.ensures.looked c.fewer_than.ensures.looked
     c.requires c.reset-answer.ensures.order c.pending-before.result c.fewer_than.result
     c.pending-before.ensures.count c.fewer_than.ensures.fewer
-    (IsKnown c.args.client.0 c.has_lease-leased.result c.pending-before.new.board.entries.items)
     (λ st. reset_plan st c.args.conn.0 c.args.client.0) (code_of c.reset-answer.result)
-    (payload_of c.reset-answer.result) c.reset-answer.ensures.does
+    (payload_of c.reset-answer.result)
+    (IsKnown c.args.client.0 c.has_lease-leased.result c.pending-before.new.board.entries.items)
+    c.reset-answer.ensures.does
     (record {
       leased = sym c.has_lease-leased.ensures;
       kind = kind_there g.F.FrameStore.kept c.pending-before.new.board.entries.items c.args.client.0;
@@ -45,9 +46,10 @@ returns-clause-goes g c tally fits =
     c.reset-answer.new.self c.fewer_than.new.board c.pending-before.ensures.looked c.fewer_than.ensures.looked
     c.requires c.reset-answer.ensures.order c.pending-before.result c.fewer_than.result
     c.pending-before.ensures.count c.fewer_than.ensures.fewer
-    (IsKnown c.args.client.0 c.has_lease-leased.result c.pending-before.new.board.entries.items)
     (λ st. reset_plan st c.args.conn.0 c.args.client.0) (code_of c.reset-answer.result)
-    (payload_of c.reset-answer.result) c.reset-answer.ensures.does
+    (payload_of c.reset-answer.result)
+    (IsKnown c.args.client.0 c.has_lease-leased.result c.pending-before.new.board.entries.items)
+    c.reset-answer.ensures.does
     (record {
       leased = sym c.has_lease-leased.ensures;
       kind = kind_there g.F.FrameStore.kept c.pending-before.new.board.entries.items c.args.client.0;

@@ -21,9 +21,10 @@ returns g c =
     g.met.F.FrameStore.whole g.F.EngineSide.moves g.met.F.FrameStore.exact c.args.board.now c.pending-before.new.board
     c.shutdown-answer.new.self c.fewer_than.new.board c.pending-before.ensures.looked c.fewer_than.ensures.looked
     c.requires c.shutdown-answer.ensures.order c.pending-before.result c.fewer_than.result
-    c.pending-before.ensures.count c.fewer_than.ensures.fewer (AnyData)
-    (λ st. shutdown_plan st) (code_of c.shutdown-answer.result) (payload_of c.shutdown-answer.result)
+    c.pending-before.ensures.count c.fewer_than.ensures.fewer
+    (λ st. shutdown_plan st) (code_of c.shutdown-answer.result) (payload_of c.shutdown-answer.result) AnyData
     c.shutdown-answer.ensures.does
     (tt) (λ st. keeps_shutdown st)
-    (λ tally fits rise gone. shutdown_outcome (core_state g.F.FrameStore.kept tally c.pending-before.new.board) rise fits) in
+    (λ tally fits rise gone. shutdown_outcome (core_state g.F.FrameStore.kept tally c.pending-before.new.board) rise
+    fits) in
     record { goes = ends.0; core = ends.1 }

@@ -1,6 +1,6 @@
 use Rattle.std.proofs.Common.{◌==◌, ap, ap₂, sym, refl, ◌∙◌}
 use Rattle.std.proofs.lemmas.Option.{get_or_from_slice_get, none-some, same_Some}
-use Rattle.service_book.specs.Gains.{gains_by}
+use Rattle.service_book.specs.Gains.{gains_if}
 use Rattle.service_book.proofs.Finding.{found_at, none_at}
 use Rattle.stream_entries.proofs.gains.gains_of.Goals as goal
 
@@ -19,9 +19,10 @@ returns g c =
     ∙ get_or_from_slice_get clients c.in-Some.place found.member c.index.result.now found.here in
     record {
       same = refl;
-      within = c.gains_in.ensures.within;
+      within = c.gains_if.ensures.within;
       gains = λ client live.
-          c.gains_in.ensures.gains
-          ∙ ap₂ gains_by (ap (λ x. x.levels) (here ∙ same_Some found.member client (sym found.found ∙ live)))
+          c.gains_if.ensures.gains
+          ∙ ap₂ (gains_if c.args.entry.now.exclusive)
+          (ap (λ x. x.levels) (here ∙ same_Some found.member client (sym found.found ∙ live)))
           c.get.ensures.session;
     }

@@ -1,10 +1,9 @@
-use Rattle.std.proofs.Common.{◌≡◌, ◌∙◌, ap₂, sym, subst, None, arith, refl}
+use Rattle.std.proofs.Common.{◌≡◌, ◌∙◌, ap₂, sym, None, arith, refl}
 use Rattle.std.proofs.lemmas.Option.{none-some}
 use Rattle.std.proofs.lemmas.Result.{err_from_is_err_and}
 use Rattle.ca_machine.specs.Devices.{add_plan, new_endpoint}
 use Rattle.wave_format.specs.declared.format.Format.{Format}
 use Rattle.wave_format.proofs.FormatLaws.{read-valid}
-use Rattle.period_engine.specs.Sounds.{IsBlockFor}
 use Rattle.device_registry.specs.declared.endpoint.Endpoint.{Endpoint}
 use Rattle.service_board.specs.Does.{AnyData}
 use Rattle.service_board.specs.declared.board.Seat.{Seat}
@@ -77,7 +76,7 @@ returns g c =
       order = added_order g.E.EngineSide.state b c.requires.order number c.args.flow bytes c.args.name.now
           c.in_ok-format.ensures.free new endpoint seat c.in-Ok-add.ensures.now c.push_reserved.ensures.items same refl
           c.push_reserved.ensures.capacity
-          (seat_made seat endpoint refl (omega arith)
-          (subst (λ n. IsBlockFor n format.channels c.in-Ok.block) c.period_frames.ensures c.in-Ok.ensures)
+          (seat_made seat endpoint refl (omega arith) c.shared_frames.result
+          (let frames = c.shared_frames.ensures in omega arith) c.in-Ok.ensures
           (read-valid bytes format c.in_ok-format.ensures.format));
     }

@@ -1,5 +1,6 @@
-use Rattle.std.proofs.Common.{arith, eq-eqb, false, true}
+use Rattle.std.proofs.Common.{◌∙◌, ap, arith, eq-eqb, false, true}
 use Rattle.std.proofs.lemmas.Bool.Decides.{nat_tests}
+use Rattle.stream_entries.specs.Holding.{period_frames}
 use Rattle.service_board.proofs.DuePeriods.{finds_due, inactive_says, no_endpoint_says, seat_bound, seat_within}
 use Rattle.std.proofs.lemmas.Result.{err_from_is_err_and}
 use Rattle.ca_base.specs.declared.values.TheConstants.{STATE_ACTIVE}
@@ -52,17 +53,23 @@ returns-then-next-frames-gt-MAX_COUNT-clause-refused g c =
           worn_says c.args.self.now c.args.e.0 c.in-Some.at (runs_by c.args.self.now c.in_ok-runs.ensures)
           c.requires.order.seats c.in-Some.ensures c.endpoint-endpoint.result.now c.endpoint-endpoint.ensures
           c.index.result.now c.index.ensures active
-          (let frames = c.period_frames-frames.ensures in let beyond = w.if-next-frames-gt-MAX_COUNT.true in
+          (let frames = (c.period_frames-frames.ensures
+          ∙ ap (period_frames c.endpoint-endpoint.result.now) c.deref.ensures.value) in let beyond =
+          w.if-next-frames-gt-MAX_COUNT.true in
           omega arith)
       | then-next-frames-gt-MAX_COUNT-via-else-next-frames-gt-MAX_COUNT+then-is_worn w ↦
           worn_stream_says c.args.self.now c.args.e.0 c.in-Some.at (runs_by c.args.self.now c.in_ok-runs.ensures)
           c.requires.order.seats c.in-Some.ensures c.endpoint-endpoint.result.now c.endpoint-endpoint.ensures
           c.index.result.now c.index.ensures c.requires.order.belong
-          (let frames = c.period_frames-frames.ensures in let within = w.if-next-frames-gt-MAX_COUNT.false in
+          (let frames = (c.period_frames-frames.ensures
+          ∙ ap (period_frames c.endpoint-endpoint.result.now) c.deref.ensures.value) in let within =
+          w.if-next-frames-gt-MAX_COUNT.false in
           omega arith)
           active
           (worn_of c.args.self.now c.endpoint-endpoint.result.now c.period_frames-frames.result w.is_worn.result true
-          c.period_frames-frames.ensures w.is_worn.ensures w.if-is_worn.true)
+          (c.period_frames-frames.ensures
+          ∙ ap (period_frames c.endpoint-endpoint.result.now) c.deref.ensures.value) w.is_worn.ensures
+          w.if-is_worn.true)
     ]
 
 pub returns-clause-found : goal.returns-clause-found
@@ -70,7 +77,10 @@ returns-clause-found g c =
     finds_due c.args.self.now c.args.e.0 c.in-Some.at (runs_by c.args.self.now c.in_ok-runs.ensures)
     c.requires.order.seats c.in-Some.ensures c.endpoint-endpoint.result.now c.endpoint-endpoint.ensures
     c.index.result.now c.index.ensures c.requires.order.belong
-    (let frames = c.period_frames-frames.ensures in let within = c.if-next-frames-gt-MAX_COUNT.false in omega arith)
+    (let frames = (c.period_frames-frames.ensures
+    ∙ ap (period_frames c.endpoint-endpoint.result.now) c.deref.ensures.value) in let within =
+    c.if-next-frames-gt-MAX_COUNT.false in omega arith)
     c.if-endpoint-ne-STATE_ACTIVE.false
     (worn_of c.args.self.now c.endpoint-endpoint.result.now c.period_frames-frames.result c.is_worn.result false
-    c.period_frames-frames.ensures c.is_worn.ensures c.if-is_worn.false)
+    (c.period_frames-frames.ensures
+    ∙ ap (period_frames c.endpoint-endpoint.result.now) c.deref.ensures.value) c.is_worn.ensures c.if-is_worn.false)

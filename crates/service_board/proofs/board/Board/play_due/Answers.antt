@@ -2,6 +2,7 @@ use Rattle.std.proofs.Common.{◌∙◌, length, map, refl, false, arith, sym, a
 use Rattle.std.proofs.lemmas.Option.{none-some}
 use Rattle.stream_entries.specs.Events.{with_event}
 use Rattle.stream_entries.proofs.Closable.{picked_closable}
+use Rattle.stream_entries.specs.Holding.{period_frames}
 use Rattle.service_board.proofs.PeriodEnds.{failed_ends, whole_ends}
 use Rattle.service_board.proofs.PeriodNeeds.{block_fits, end_gains, endpoint_within, entries_feed, entries_playable}
 use Rattle.service_board.proofs.PeriodNeeds.{feed_fits, few_channels, its_ends, next_fits, no_state_row, same_size}
@@ -21,7 +22,8 @@ pub shared_ref_as_front-ends : goal.shared_ref_as_front-ends
 shared_ref_as_front-ends g c =
     few_channels g.E.EngineSide.state c.args.self.now c.requires.order c.args.e.0 c.args.at
     c.requires.found c.endpoint-endpoint.result.now c.endpoint-endpoint.ensures c.period_frames-frames.result
-    c.period_frames-frames.ensures
+    (c.period_frames-frames.ensures
+    ∙ ap (period_frames c.endpoint-endpoint.result.now) c.deref.ensures.value)
 
 pub index_mut-seat-requires : goal.index_mut-seat-requires
 index_mut-seat-requires g c =
@@ -39,26 +41,32 @@ pub play-requires-clause-playable : goal.play-requires-clause-playable
 play-requires-clause-playable g c =
     rw c.deref_mut-entries.ensures.value (entries_playable g.E.EngineSide.state c.args.self.now c.requires.order
     c.args.e.0 c.args.at c.requires.found c.endpoint-endpoint.result.now c.endpoint-endpoint.ensures
-    c.period_frames-frames.result c.period_frames-frames.ensures)
+    c.period_frames-frames.result (c.period_frames-frames.ensures
+    ∙ ap (period_frames c.endpoint-endpoint.result.now) c.deref.ensures.value))
 
 pub play-requires-clause-ends : goal.play-requires-clause-ends
 play-requires-clause-ends g c =
     its_ends g.E.EngineSide.state c.args.self.now c.requires.order c.args.e.0 c.args.at c.requires.found
     c.endpoint-endpoint.result.now c.endpoint-endpoint.ensures c.period_frames-frames.result
-    c.period_frames-frames.ensures
+    (c.period_frames-frames.ensures
+    ∙ ap (period_frames c.endpoint-endpoint.result.now) c.deref.ensures.value)
 
 pub play-requires-clause-block : goal.play-requires-clause-block
 play-requires-clause-block g c =
     block_fits g.E.EngineSide.state c.args.self.now c.requires.order c.args.e.0 c.args.at c.requires.found
     c.endpoint-endpoint.result.now c.endpoint-endpoint.ensures c.period_frames-frames.result
-    c.period_frames-frames.ensures c.index_mut-seat.result.now c.index_mut-seat.ensures.value
+    (c.period_frames-frames.ensures
+    ∙ ap (period_frames c.endpoint-endpoint.result.now) c.deref.ensures.value) c.index_mut-seat.result.now
+    c.index_mut-seat.ensures.value
 
 pub feed_loopback-requires-clause-feedable : goal.feed_loopback-requires-clause-feedable
 feed_loopback-requires-clause-feedable g c = (
   length (end_gains c.endpoint-endpoint.result.now.format.channels),
   feed_fits g.E.EngineSide.state c.args.self.now c.requires.order c.args.e.0 c.args.at c.requires.found
       c.endpoint-endpoint.result.now c.endpoint-endpoint.ensures c.period_frames-frames.result
-      c.period_frames-frames.ensures c.index_mut-seat.result.now c.index_mut-seat.ensures.value c.play.new.block
+      (c.period_frames-frames.ensures
+      ∙ ap (period_frames c.endpoint-endpoint.result.now) c.deref.ensures.value) c.index_mut-seat.result.now
+      c.index_mut-seat.ensures.value c.play.new.block
       c.in-Ok.ensures.block,
   feeds_left g.E.EngineSide.moves g.E.EngineSide.state c.args.self.now c.requires.order
       c.deref_mut-entries.result.now c.deref_mut-entries.ensures.value g.met.E.EngineSide.joins c.args.e.0
@@ -66,7 +74,8 @@ feed_loopback-requires-clause-feedable g c = (
       c.in-Ok.ensures.sounds c.retire.ensures.turned
       (rw c.deref_mut-entries.ensures.value (entries_feed g.E.EngineSide.state c.args.self.now c.requires.order
       c.args.e.0 c.args.at c.requires.found c.endpoint-endpoint.result.now c.endpoint-endpoint.ensures
-      c.period_frames-frames.result c.period_frames-frames.ensures)),
+      c.period_frames-frames.result (c.period_frames-frames.ensures
+      ∙ ap (period_frames c.endpoint-endpoint.result.now) c.deref.ensures.value))),
 )
 
 pub overflow_add-seat : goal.overflow_add-seat
@@ -74,7 +83,9 @@ overflow_add-seat g c =
     let within =
     next_fits g.E.EngineSide.state c.args.self.now c.requires.order c.args.e.0 c.args.at c.requires.found
     c.endpoint-endpoint.result.now c.endpoint-endpoint.ensures c.period_frames-frames.result
-    c.period_frames-frames.ensures c.index_mut-seat.result.now c.index_mut-seat.ensures.value in
+    (c.period_frames-frames.ensures
+    ∙ ap (period_frames c.endpoint-endpoint.result.now) c.deref.ensures.value) c.index_mut-seat.result.now
+    c.index_mut-seat.ensures.value in
     omega arith
 
 pub unreachable-requires : goal.unreachable-requires
@@ -104,7 +115,8 @@ returns-in-Ok g c =
       old = c.deref_mut-entries.ensures.value;
       size = c.feed_loopback.auto.all ∙ c.retire.auto.all ∙ c.play.auto.all;
       endpoint = c.endpoint-endpoint.ensures;
-      frames_are = c.period_frames-frames.ensures;
+      frames_are = (c.period_frames-frames.ensures
+          ∙ ap (period_frames c.endpoint-endpoint.result.now) c.deref.ensures.value);
       seat = c.index_mut-seat.ensures.value;
       block_is =
           same_size c.index_mut-seat.result.now.block c.play.new.block c.feed_loopback.new.block c.in-Ok.ensures.block
@@ -116,10 +128,12 @@ returns-in-Ok g c =
     c.in-Ok.ensures.sounds c.retire.ensures.turned c.feed_loopback.new.all c.in-Ok.ensures.picked
     (rw c.deref_mut-entries.ensures.value (entries_feed g.E.EngineSide.state c.args.self.now c.requires.order
     c.args.e.0 c.args.at c.requires.found c.endpoint-endpoint.result.now c.endpoint-endpoint.ensures
-    c.period_frames-frames.result c.period_frames-frames.ensures))
+    c.period_frames-frames.result (c.period_frames-frames.ensures
+    ∙ ap (period_frames c.endpoint-endpoint.result.now) c.deref.ensures.value)))
     (c.feed_loopback.ensures.turned (length (end_gains c.endpoint-endpoint.result.now.format.channels))))
     c.feed_loopback.ensures.rested c.set_events.new.clients
-    (c.set_events.ensures ∙ ap (map (with_event c.args.e.0 c.feed_loopback.new.all)) c.deref_mut-clients.ensures.value) c.requires.plays c.requires.fresh in
+    (c.set_events.ensures ∙ ap (map (with_event c.args.e.0 c.feed_loopback.new.all)) c.deref_mut-clients.ensures.value)
+    c.requires.plays c.requires.fresh in
     record {
       does = ends.0;
       order = ends.1;
@@ -138,7 +152,8 @@ returns-in-Ok-set_state g c =
       old = c.deref_mut-entries.ensures.value;
       size = c.close_failed.auto.all ∙ c.play.auto.all;
       endpoint = c.endpoint-endpoint.ensures;
-      frames_are = c.period_frames-frames.ensures;
+      frames_are = (c.period_frames-frames.ensures
+          ∙ ap (period_frames c.endpoint-endpoint.result.now) c.deref.ensures.value);
       seat = c.index_mut-seat.ensures.value;
       block_is = c.in-Err.ensures.block;
     })

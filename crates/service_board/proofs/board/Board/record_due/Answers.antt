@@ -1,6 +1,7 @@
 use Rattle.std.proofs.Common.{◌∙◌, ◌==◌, map, refl, sym, ap, if◌then◌else◌}
 use Rattle.std.proofs.lemmas.Option.{none-some}
 use Rattle.stream_entries.specs.Events.{with_event}
+use Rattle.stream_entries.specs.Holding.{period_frames}
 use Rattle.service_board.proofs.PeriodNeeds.{entries_record, no_state_row, record_fits}
 use Rattle.stream_entries.specs.Events.{with_event}
 use Rattle.service_board.proofs.PeriodNeeds.{some_frame}
@@ -23,19 +24,23 @@ pub feed_capture-requires-clause-some : goal.feed_capture-requires-clause-some
 feed_capture-requires-clause-some g c =
     some_frame g.E.EngineSide.state c.args.self.now c.requires.order c.args.e.0 c.args.at c.requires.found
     c.endpoint-endpoint.result.now c.endpoint-endpoint.ensures c.period_frames-frames.result
-    c.period_frames-frames.ensures
+    (c.period_frames-frames.ensures
+    ∙ ap (period_frames c.endpoint-endpoint.result.now) c.deref-2.ensures.value)
 
 pub feed_capture-requires-clause-room : goal.feed_capture-requires-clause-room
 feed_capture-requires-clause-room g c =
     record_fits g.E.EngineSide.state c.args.self.now c.requires.order c.args.e.0 c.args.at c.requires.found
     c.endpoint-endpoint.result.now c.endpoint-endpoint.ensures c.period_frames-frames.result
-    c.period_frames-frames.ensures c.index_mut-seat.result.now c.index_mut-seat.ensures.value
+    (c.period_frames-frames.ensures
+    ∙ ap (period_frames c.endpoint-endpoint.result.now) c.deref-2.ensures.value) c.index_mut-seat.result.now
+    c.index_mut-seat.ensures.value
 
 pub feed_capture-requires-clause-feedable : goal.feed_capture-requires-clause-feedable
 feed_capture-requires-clause-feedable g c =
     rw c.deref_mut-entries.ensures.value (entries_record g.E.EngineSide.state c.args.self.now c.requires.order
     c.args.e.0 c.args.at c.requires.found c.endpoint-endpoint.result.now c.endpoint-endpoint.ensures
-    c.period_frames-frames.result c.period_frames-frames.ensures)
+    c.period_frames-frames.result (c.period_frames-frames.ensures
+    ∙ ap (period_frames c.endpoint-endpoint.result.now) c.deref-2.ensures.value))
 
 pub close_failed-requires-clause-few : goal.close_failed-requires-clause-few
 close_failed-requires-clause-few g c =
@@ -58,7 +63,8 @@ returns-in-Ok g c =
       old = c.deref_mut-entries.ensures.value;
       size = c.feed_capture.auto.all;
       endpoint = c.endpoint-endpoint.ensures;
-      frames_are = c.period_frames-frames.ensures;
+      frames_are = (c.period_frames-frames.ensures
+          ∙ ap (period_frames c.endpoint-endpoint.result.now) c.deref-2.ensures.value);
       seat = c.index_mut-seat.ensures.value;
       block_is = c.in-Ok.ensures.block;
     })
@@ -88,7 +94,8 @@ returns-in-Ok-set_state g c =
       old = c.deref_mut-entries.ensures.value;
       size = c.close_failed.auto.all ∙ c.feed_capture.auto.all;
       endpoint = c.endpoint-endpoint.ensures;
-      frames_are = c.period_frames-frames.ensures;
+      frames_are = (c.period_frames-frames.ensures
+          ∙ ap (period_frames c.endpoint-endpoint.result.now) c.deref-2.ensures.value);
       seat = c.index_mut-seat.ensures.value;
       block_is = c.in-Err.ensures.block;
     })

@@ -56,6 +56,12 @@ unreachable-requires g c =
       made-is = c.with_format-endpoint.ensures;
     })))
 
+pub index-requires : goal.index-requires
+index-requires g c =
+    let within = c.in_ok-at.ensures.found.within in
+    let same = seats_length c.args.self.now.seats.items c.args.self.now.book.registry.list c.requires.order.seats in
+    omega arith
+
 pub index_mut-requires : goal.index_mut-requires
 index_mut-requires g c =
     let within = c.in_ok-at.ensures.found.within in
@@ -76,6 +82,13 @@ returns g c =
     })
     g.E.EngineSide.moves g.E.EngineSide.state c.requires.order c.disconnect.new.entries c.matches-lost.result
     c.matches-lost.ensures c.disconnect.ensures c.replace.new.self c.in-Ok-replace.ensures.now c.index_mut.result.now
-    c.index_mut.ensures.value c.period_frames.result c.period_frames.ensures c.in-Ok-new.block c.in-Ok-new.ensures
+    c.index_mut.ensures.value c.index.result.now c.index.ensures
+    (let within = c.in_ok-at.ensures.found.within in
+    let same = seats_length c.args.self.now.seats.items c.args.self.now.book.registry.list c.requires.order.seats in
+    omega arith)
+    c.max-frames.result
+    (let most = c.max-frames.ensures in let shared = c.shared_frames.ensures in omega arith)
+    (let most = c.max-frames.ensures in let frames = c.frames.ensures in omega arith)
+    c.in-Ok-new.block c.in-Ok-new.ensures
     g.D.Devices.faults g.D.Devices.told in
     record { does = ends.0; order = ends.1 }
