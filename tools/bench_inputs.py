@@ -29,11 +29,11 @@ def endpoint(flow, pcm=STEREO):
             + spell("Open", conn=1, pid=10, name=b"player"))
 
 
-def running(clients, duration=0, pcm=STEREO, flags=0):
+def running(clients, duration=0, pcm=STEREO, flags=0, share=0):
     """Clients of that endpoint whose streams run, with buffers of this duration: three events each."""
     return b"".join(
         spell("Activate", conn=1, tag=1, endpoint=1, role=0)
-        + spell("Initialize", conn=1, tag=2, client=client, share=0, flags=flags, duration=duration, format=pcm)
+        + spell("Initialize", conn=1, tag=2, client=client, share=share, flags=flags, duration=duration, format=pcm)
         + spell("Start", conn=1, tag=3, client=client) for client in clients)
 
 
@@ -86,6 +86,13 @@ def streams(path, count, periods, levels=False):
     parts = [(release_buffer(480, 2, clients) + spell("Period", endpoint=1), 2 * count + 1, 1920)] * periods
     name = f"{count} streams, {count} gains" if levels else f"{count} streams"
     return Input(name, path, 1920).write([(first, 2 + (5 if levels else 3) * count, 0)] + parts)
+
+
+def exclusive(path, periods):
+    """One running stream that has a stereo endpoint for itself alone: for each period it gets one period of frames."""
+    first = endpoint(0) + running([1], share=1)
+    parts = [(release_buffer(480, 2) + spell("Period", endpoint=1), 3, 1920)] * periods
+    return Input("1 exclusive stream", path, 1920).write([(first, 5, 0)] + parts)
 
 
 def recorders(path, count, periods):

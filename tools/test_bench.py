@@ -50,6 +50,14 @@ class Bench(unittest.TestCase):
                                  + (["GetBuffer", "ReleaseBuffer"] * count + ["Period"]) * 3)
                 self.assertEqual(source.played, 3 * 1920)
 
+    def test_exclusive(self):
+        source = bench.exclusive(self.folder / "events", 3)
+        events = self.events(source)
+        self.assertEqual([event.values["share"] for event in events if event.name == "Initialize"], [1])
+        names = [event.name for event in events[5:]]
+        self.assertEqual(names, ["GetBuffer", "ReleaseBuffer", "Period"] * 3)
+        self.assertEqual(source.played, 3 * 1920)
+
     def test_streams_with_gains(self):
         source = bench.streams(self.folder / "events", 64, 1, levels=True)
         events = self.events(source)
