@@ -1,0 +1,4 @@
+pub mod Ducking
+pub mod Book
+pub mod Steps
+pub mod Laws
